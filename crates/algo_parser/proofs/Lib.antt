@@ -1,0 +1,15 @@
+pub mod Blocks
+pub mod Led
+pub mod Prefixes
+pub mod Places
+pub mod Firsts
+pub mod Acts
+pub mod Lengths
+pub mod Hears
+pub mod Gathers
+pub mod Reached
+pub mod Preludes
+pub mod Makes
+pub mod FirstForms
+pub mod Sounds
+pub mod SoundReads

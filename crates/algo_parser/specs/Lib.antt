@@ -1,0 +1,10 @@
+pub mod Ends
+pub mod Spans
+pub mod Grammar
+pub mod Stages
+pub mod Structure
+pub mod Units
+pub mod Machine
+pub mod Views
+pub mod Hearing
+pub mod Progress

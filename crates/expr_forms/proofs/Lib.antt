@@ -1,0 +1,15 @@
+pub mod Answered
+pub mod Begins
+pub mod Cases
+pub mod Complete
+pub mod Depths
+pub mod FormComplete
+pub mod FormSound
+pub mod HeaderComplete
+pub mod HeaderSound
+pub mod Lists
+pub mod PartComplete
+pub mod PartSound
+pub mod Sound
+pub mod Steps
+pub mod Turns

@@ -1,0 +1,7 @@
+use Rattle.std.proofs.Common.{◌≡◌, ◌-◌}
+use Rattle.kumir_tree.specs.Seen.{tree}
+use Rattle.expr_forms.specs.Reading as spec
+use Rattle.expr_forms.proofs.expressions.Grammar.product.Given as goal
+
+abbrev pub invariant-loop-turn : goal.invariant-loop-turn
+invariant-loop-turn g l = spec.product (spec.expr_in l.self.depth) l.fn.tokens ≡ spec.chain_from spec.multiplicative (spec.signed (spec.expr_in l.self.depth)) (l._turn-end - l._turn) (tree l.left) l.tokens

@@ -1,0 +1,12 @@
+pub mod Tokens
+pub mod Brackets
+pub mod Grammar
+pub mod Lists
+pub mod Forms
+pub mod Answers
+pub mod Looks
+pub mod Reading
+pub mod PartReading
+pub mod HeaderReading
+pub mod FormReading
+pub mod Nests

@@ -1,0 +1,13 @@
+use Rattle.std.proofs.Common.{◌≡◌, ◌+◌, ◌≤◌, ◌-◌, vec_len}
+use Rattle.km_ports.specs.Ports.{TakesFrom}
+use Rattle.km_ports.proofs.whole.read_within.Given as goal
+
+abbrev pub invariant-loop-found : goal.invariant-loop-found
+invariant-loop-found g l = record {
+  within : vec_len l.found ≤ l.most + 1;
+  bytes : TakesFrom (g.I.Source.left l.initial.input) (g.I.Source.left l.input) l.found.items;
+  count : g.I.Source.faults l.input ≡ g.I.Source.faults l.initial.input;
+}
+
+abbrev pub decreases-loop-found : goal.decreases-loop-found
+decreases-loop-found g l = l.most + 1 - vec_len l.found

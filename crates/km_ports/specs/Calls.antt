@@ -1,0 +1,31 @@
+-- The calls of a source or a sink in memory.
+use Rattle.std.specs.Prelude.{◌<◌, ℕ, ◌+◌, ◌-◌, ◌^◌, min, List, Contains, Bool, if◌then◌else◌}
+
+-- how many bytes a call may move at most, the numbers of the calls that fail, from 1, how many calls were made, and how many of them failed
+pub record Calls : Type 0 where
+  pub most : ℕ
+  pub fails : List ℕ
+  pub made : ℕ
+  pub failed : ℕ
+
+-- before the first call
+abbrev pub no_calls : ℕ → List ℕ → Calls
+no_calls most fails = record { most = most; fails = fails; made = 0; failed = 0 }
+
+-- the number of the next call stands among those that fail; after call 2^64 - 1 none does
+abbrev pub FailsNext : Calls → Type 0
+FailsNext calls = (calls.made < 2 ^ 64 - 1) × Contains calls.fails (calls.made + 1)
+
+-- after a call that failed, or did not
+abbrev pub after_call : Calls → Bool → Calls
+after_call calls failed = record calls { made = min (calls.made + 1) (2 ^ 64 - 1); failed = if failed then calls.failed + 1 else calls.failed }
+
+-- a source: the bytes that are left, and its calls
+pub record SourceInMemory : Type 0 where
+  pub left : List ℕ
+  pub calls : Calls
+
+-- a sink: the bytes that it was given, and its calls
+pub record SinkInMemory : Type 0 where
+  pub written : List ℕ
+  pub calls : Calls

@@ -1,0 +1,11 @@
+-- What stands behind the ports of the outside.
+use Rattle.km_ports.specs.declared.outside.StdSource.{StdSource}
+use Rattle.km_ports.specs.declared.outside.StdSink.{StdSink}
+
+-- the reader of a source
+abbrev pub reader_of : {R : Type 0} → StdSource R → R
+reader_of source = source.inner
+
+-- the writer of a sink
+abbrev pub writer_of : {W : Type 0} → StdSink W → W
+writer_of sink = sink.inner

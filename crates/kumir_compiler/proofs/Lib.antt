@@ -1,0 +1,17 @@
+pub mod Slotted
+pub mod Stands
+pub mod Variables
+pub mod Cells
+pub mod Reach
+pub mod Operands
+pub mod Evaluates
+pub mod Settled
+pub mod Matches
+pub mod Arguments
+pub mod Expressions
+pub mod Simple
+pub mod Loops
+pub mod Statements
+pub mod Received
+pub mod Programs
+pub mod Scoped

@@ -1,0 +1,24 @@
+-- What is promised of the code of a program.
+use Rattle.std.specs.Prelude.{ℕ, ◌≤◌, List}
+use Rattle.performer_kit.specs.declared.commands.Reply.{Reply}
+use Rattle.kumir_values.specs.declared.value.Value.{Value}
+use Rattle.kumir_values.specs.Callees.{Program}
+use Rattle.kumir_values.specs.Samples.{adding, swapping}
+use Rattle.kumir_values.specs.Meaning.{run}
+use Rattle.stack_code.specs.CodeRuns.{CodeRun, Begins}
+use Rattle.kumir_compiler.specs.Code.{code_of}
+use Rattle.kumir_compiler.specs.Compilable.{IsCompilable}
+
+-- on all inputs and replies and within each number of steps the code runs as the program means, from the first algorithm on
+abbrev pub CodeMeansTheProgram : Type 0
+CodeMeansTheProgram =
+    (p : Program) → IsCompilable p → (inputs : List Value) (replies : List Reply) (n : ℕ) → CodeRun (code_of p) 0 inputs replies n (run p inputs replies n)
+
+-- on more steps and more replies the acts of a program begin with those that it has on less
+abbrev pub MeaningOnlyGrows : Type 0
+MeaningOnlyGrows =
+    (p : Program) → IsCompilable p → (inputs : List Value) (r q : List Reply) (m n : ℕ) → m ≤ n → Begins r q → Begins (run p inputs r m).acts (run p inputs q n).acts
+
+-- the premise holds of the sample programs with calls in an expression, and with names and elements as `аргрез` arguments
+abbrev pub SamplesAreCompilable : Type 0
+SamplesAreCompilable = IsCompilable adding × IsCompilable swapping

@@ -1,0 +1,11 @@
+pub mod Digits
+pub mod Reals
+pub mod Marks
+pub mod Longest
+pub mod Values
+pub mod Steps
+pub mod Names
+pub mod Encoded
+pub mod Only
+pub mod Unique
+pub mod Some

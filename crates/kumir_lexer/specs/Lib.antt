@@ -1,0 +1,7 @@
+pub mod Spelling
+pub mod Joined
+pub mod Classes
+pub mod Cutting
+pub mod Fronts
+pub mod Steps
+pub mod Printed

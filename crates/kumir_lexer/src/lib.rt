@@ -1,0 +1,15 @@
+//! The one cutting of a line into tokens.
+#![tactic(auto)]
+
+mod cutting;
+mod fronts;
+mod line;
+mod print;
+mod spelling;
+#[cfg(test)]
+mod tests;
+
+pub use cutting::{Class, LexFault, LineTokens};
+pub use line::{lex_line, one_cutting};
+pub use print::print_tokens;
+pub use spelling::{KEYWORDS, SIGNS, key_of, key_spelling, sign_of, sign_spelling};

@@ -1,0 +1,12 @@
+pub mod Tree
+pub mod Part
+pub mod Program
+pub mod Piece
+pub mod Unit
+pub mod Seen
+pub mod Parts
+pub mod Blocks
+pub mod Pieces
+pub mod Units
+pub mod Lines
+pub mod Sound

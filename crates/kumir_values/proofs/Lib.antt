@@ -1,0 +1,5 @@
+pub mod Division
+pub mod Powers
+pub mod Runs
+pub mod Places
+pub mod Maps

@@ -1,0 +1,17 @@
+//! Values, exact arithmetic within 32 bits, tables, how a run ends, and, as definitions, what programs mean.
+#![tactic(auto)]
+
+mod arithmetic;
+mod bounds;
+mod laws;
+mod run_end;
+mod table;
+#[cfg(test)]
+mod tests;
+mod value;
+
+pub use arithmetic::{add, div, iabs, imax, imin, mul, neg, power, rem, sub};
+pub use bounds::Bound;
+pub use run_end::{EndKind, RunFault};
+pub use table::{Table, TableRefusal};
+pub use value::{Value, Values, print_value};

@@ -1,0 +1,6 @@
+pub mod Prints
+pub mod Marks
+pub mod Runs
+pub mod Sizes
+pub mod Limits
+pub mod Feeds

@@ -1,0 +1,97 @@
+-- The print of lines, one part after another.
+use Rattle.std.proofs.Common.{map, ◌≡◌, ℕ, ◌+◌, ◌<◌, ◌≤◌, List, [], ◌∷◌, ◌++◌, length, take, drop, get_or, Option, arith, sym, ap, subst, ◌∙◌, refl, append_assoc, append-nil, length-append}
+use Rattle.std.proofs.Math.Seq.{take-append-add}
+use Rattle.std.proofs.lemmas.List.{take-append-le, take-append-drop, take_more, length-take-le, get_or-map, length-map}
+use Rattle.km_ports.specs.Ports.{PutsInto}
+use Rattle.km_ports.proofs.PortLaws.{PutsInto-nothing, PutsInto-then}
+use Rattle.kumir_tree.specs.declared.token.Spanned.{Spanned}
+use Rattle.kumir_lexer.specs.declared.cutting.LexFault.{LexFault}
+use Rattle.kumir_lexer.specs.Cutting.{Cut}
+use Rattle.kumir_lexer.specs.Printed.{printed_tokens}
+use Rattle.kumir_lexer.proofs.Some.{some_cut}
+use Rattle.km_ports.specs.Whole.{PutsFront}
+use Rattle.kumir_tree.specs.Lines.{lines_of}
+use Rattle.km_ports.specs.declared.status.Status.TheVariants as status
+use Rattle.plain_run.specs.Printed.{PrintsLines, AnswersTokens}
+use Rattle.plain_run.specs.Runs.{Ports, Wrote, WroteFront}
+use Rattle.plain_run.specs.Puts.{PutsLines, PutsFrontOf}
+
+prints_append : (n : ℕ) (xs ys : List (List ℕ)) (a b : List ℕ) → PrintsLines n xs a → PrintsLines (n + length xs) ys b → PrintsLines n (xs ++ ys) (a ++ b)
+unfolding PrintsLines
+prints_append n [] ys a b p q =
+    let here : n + length {A = List ℕ} [] ≡ n = omega arith in
+    subst (λ t. PrintsLines n ys (t ++ b)) (sym p) (subst (λ k. PrintsLines k ys b) here q)
+prints_append n (x ∷ xs) ys a b p q =
+    let next : n + length (x ∷ xs) ≡ n + 1 + length xs = omega arith in
+    let more = prints_append (n + 1) xs ys p.2 b p.4 (subst (λ k. PrintsLines k ys b) next q) in
+    (p.0, p.1, p.2 ++ b, p.3, more, ap (λ t. t ++ b) p.5 ∙ append_assoc (printed_tokens n p.0 p.1) p.2 b)
+
+-- there is a print of all lines
+pub prints_some : (n : ℕ) (lines : List (List ℕ)) → (text : List ℕ) × PrintsLines n lines text
+unfolding PrintsLines
+prints_some n [] = ([], refl)
+prints_some n (x ∷ xs) =
+    let cut = some_cut x in
+    let rest = prints_some (n + 1) xs in
+    (printed_tokens n cut.0 cut.1 ++ rest.0, (cut.0, cut.1, rest.0, cut.2, rest.1, refl))
+
+-- one line
+pub prints_one : (n : ℕ) (line : List ℕ) (tokens : List Spanned) (fault : Option LexFault) → Cut line tokens fault → PrintsLines n (line ∷ []) (printed_tokens n tokens fault)
+unfolding PrintsLines
+prints_one n line tokens fault cut = (tokens, fault, [], cut, refl, sym (append-nil (printed_tokens n tokens fault)))
+
+pub puts_none : (n : ℕ) (written : Option (List ℕ)) → PutsLines n [] written written
+unfolding PrintsLines
+puts_none n written = ([], refl, PutsInto-nothing written)
+
+pub puts_then : (n : ℕ) (xs ys : List (List ℕ)) (before between now : Option (List ℕ)) → PutsLines n xs before between → PutsLines (n + length xs) ys between now → PutsLines n (xs ++ ys) before now
+puts_then n xs ys before between now p q = (p.0 ++ q.0, prints_append n xs ys p.0 q.0 p.1 q.1, PutsInto-then before between now p.0 q.0 p.2 q.2)
+
+pub front_then : (n : ℕ) (xs ys zs : List (List ℕ)) (before between now : Option (List ℕ)) → PutsLines n xs before between → PutsFrontOf (n + length xs) ys between now → PutsFrontOf n (xs ++ (ys ++ zs)) before now
+front_then n xs ys zs before between now p q =
+    let rest = prints_some (n + length xs + length ys) zs in
+    let behind = prints_append (n + length xs) ys zs q.0 rest.0 q.3 rest.1 in
+    let front : take (length p.0 + q.1) (p.0 ++ (q.0 ++ rest.0)) ≡ p.0 ++ take q.1 q.0 = take-append-add p.0 (q.0 ++ rest.0) q.1 ∙ ap (λ t. p.0 ++ t) (take-append-le q.1 q.0 rest.0 q.2) in
+    let fits : length p.0 + q.1 ≤ length (p.0 ++ (q.0 ++ rest.0)) = omega (arith, q.2, length-append p.0 (q.0 ++ rest.0), length-append q.0 rest.0) in
+    (p.0 ++ (q.0 ++ rest.0), length p.0 + q.1, fits, prints_append n xs (ys ++ zs) p.0 (q.0 ++ rest.0) p.1 behind, subst (λ t. PutsInto before now t) (sym front) (PutsInto-then before between now p.0 (take q.1 q.0) p.2 q.4))
+
+-- nothing is a front
+pub front_none : (n : ℕ) (lines : List (List ℕ)) (written : Option (List ℕ)) → PutsFrontOf n lines written written
+front_none n lines written = let all = prints_some n lines in (all.0, 0, omega arith, all.1, PutsInto-nothing written)
+
+-- the print of one line, whole or a front of it
+pub line_whole : (n : ℕ) (line : List ℕ) (tokens : List Spanned) (fault : Option LexFault) (bytes : List ℕ) (before now : Option (List ℕ)) → Cut line tokens fault → bytes ≡ printed_tokens n tokens fault → PutsInto before now bytes → PutsLines n (line ∷ []) before now
+line_whole n line tokens fault bytes before now cut e puts = (printed_tokens n tokens fault, prints_one n line tokens fault cut, subst (λ b. PutsInto before now b) e puts)
+
+pub line_front : (n : ℕ) (line : List ℕ) (tokens : List Spanned) (fault : Option LexFault) (bytes : List ℕ) (before now : Option (List ℕ)) → Cut line tokens fault → bytes ≡ printed_tokens n tokens fault → PutsFront before now bytes → PutsFrontOf n (line ∷ []) before now
+line_front n line tokens fault bytes before now cut e puts =
+    let puts' : PutsFront before now (printed_tokens n tokens fault) = subst (λ b. PutsFront before now b) e puts in
+    (printed_tokens n tokens fault, puts'.0, omega (arith, puts'.1), prints_one n line tokens fault cut, puts'.2)
+
+one_more : {X : Type 0} (line_of : X → List ℕ) (xs : List X) (i : ℕ) (d : X) → i < length xs → take (i + 1) (map line_of xs) ≡ take i (map line_of xs) ++ line_of (get_or xs i d) ∷ []
+one_more line_of xs i d lt =
+    take_more (map line_of xs) i (line_of d) (omega (arith, length-map xs line_of)) ∙ ap (λ l. take i (map line_of xs) ++ l ∷ []) (get_or-map line_of xs i d (line_of d) lt)
+
+front_size : {X : Type 0} (line_of : X → List ℕ) (xs : List X) (i : ℕ) → i < length xs → length (take i (map line_of xs)) ≡ i
+front_size line_of xs i lt = length-take-le i (map line_of xs) (omega (arith, length-map xs line_of))
+
+-- the line at i, behind those before it
+pub lines_more : {X : Type 0} (line_of : X → List ℕ) (xs : List X) (i : ℕ) (d : X) (before between now : Option (List ℕ)) → i < length xs → PutsLines 1 (take i (map line_of xs)) before between → PutsLines (i + 1) (line_of (get_or xs i d) ∷ []) between now → PutsLines 1 (take (i + 1) (map line_of xs)) before now
+lines_more line_of xs i d before between now lt p q =
+    let number : i + 1 ≡ 1 + length (take i (map line_of xs)) = omega (arith, front_size line_of xs i lt) in
+    subst (λ (l : List (List ℕ)). PutsLines 1 l before now) (sym (one_more line_of xs i d lt)) (puts_then 1 (take i (map line_of xs)) _ before between now p (subst (λ n. PutsLines n (line_of (get_or xs i d) ∷ []) between now) number q))
+
+pub lines_front : {X : Type 0} (line_of : X → List ℕ) (xs : List X) (i : ℕ) (d : X) (before between now : Option (List ℕ)) → i < length xs → PutsLines 1 (take i (map line_of xs)) before between → PutsFrontOf (i + 1) (line_of (get_or xs i d) ∷ []) between now → PutsFrontOf 1 (map line_of xs) before now
+lines_front line_of xs i d before between now lt p q =
+    let number : i + 1 ≡ 1 + length (take i (map line_of xs)) = omega (arith, front_size line_of xs i lt) in
+    let whole : take i (map line_of xs) ++ ((line_of (get_or xs i d) ∷ []) ++ drop (i + 1) (map line_of xs)) ≡ map line_of xs =
+    sym (append_assoc (take i (map line_of xs)) (line_of (get_or xs i d) ∷ []) (drop (i + 1) (map line_of xs))) ∙ ap (λ l. l ++ drop (i + 1) (map line_of xs)) (sym (one_more line_of xs i d lt)) ∙ take-append-drop (i + 1) (map line_of xs) in
+    subst (λ (l : List (List ℕ)). PutsFrontOf 1 l before now) whole (front_then 1 (take i (map line_of xs)) _ (drop (i + 1) (map line_of xs)) before between now p (subst (λ n. PutsFrontOf n (line_of (get_or xs i d) ∷ []) between now) number q))
+
+-- ---- the answer of `tokens`
+
+pub tokens_whole : (bytes : List ℕ) (lines : List (List ℕ)) (p : Ports) → lines ≡ lines_of bytes → PutsLines 1 lines p.written_before p.written → (text : List ℕ) × AnswersTokens bytes status.Fine text × Wrote p text
+tokens_whole bytes lines p e puts = let all = subst (λ l. PutsLines 1 l p.written_before p.written) e puts in (all.0, (refl, all.1), all.2)
+
+pub tokens_front : (bytes : List ℕ) (lines : List (List ℕ)) (p : Ports) → lines ≡ lines_of bytes → PutsFrontOf 1 lines p.written_before p.written → (text : List ℕ) × AnswersTokens bytes status.Fine text × WroteFront p text
+tokens_front bytes lines p e puts = let all = subst (λ l. PutsFrontOf 1 l p.written_before p.written) e puts in (all.0, (refl, all.3), (all.1, all.4))

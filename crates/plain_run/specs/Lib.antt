@@ -1,0 +1,6 @@
+pub mod Feeds
+pub mod Texts
+pub mod Runs
+pub mod Printed
+pub mod Puts
+pub mod Ending

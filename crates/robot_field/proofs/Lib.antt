@@ -1,0 +1,4 @@
+pub mod Replies
+pub mod Reading
+pub mod Spellings
+pub mod FirstBad

@@ -1,0 +1,12 @@
+//! The Robot on its field of cells (docs/LANGUAGE.md, "Performers").
+#![tactic(auto)]
+
+mod field;
+mod laws;
+mod side;
+#[cfg(test)]
+mod tests;
+mod text;
+
+pub use field::{Field, FieldRefusal};
+pub use laws::robot_goes_on;

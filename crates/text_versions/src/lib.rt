@@ -1,0 +1,14 @@
+//! Texts, edits, and the versions of a text that edits make.
+#![tactic(auto)]
+
+mod edit;
+mod limits;
+#[cfg(test)]
+mod tests;
+mod text;
+mod versions;
+
+pub use edit::Edit;
+pub use limits::{Limits, TEXT_LIMITS, is_within};
+pub use text::{Text, TextRefusal};
+pub use versions::{ApplyRefusal, Versions};

@@ -1,0 +1,93 @@
+//! Texts.
+ghost use Rattle.std.specs.Prelude.{◌≡◌, ◌-◌, ◌<◌, ◌≤◌, ◌⊎◌, [], true, length, slice_get, Some, Ok, Err, MatchOption, IfOk, OnOk, if◌then◌else◌};
+ghost use Rattle.text_versions.specs.Texts.{IsText, IsUnless, is_within};
+
+use crate::limits::{Limits, TEXT_LIMITS, is_within};
+use kumir_tree::{Line, Lines};
+use std::alloc::Global;
+use std::marker::Model;
+
+/// A text, seen as the list of its lines, each as the list of its characters. It has fewer than 4,294,967,295 lines and
+/// fewer than 4,294,967,295 bytes, with one byte counted between each two neighbouring lines.
+#[derive(Debug, Drop)]
+pub struct Text {
+    lines: Lines,
+}
+
+impl Model for Text {
+    ghost use Rattle.std.specs.Prelude.{List, ℕ};
+    ghost use Rattle.text_versions.specs.Texts.{IsText};
+
+    ghost Value = { List (List ℕ) };
+
+    ghost view = { λ t. t.lines };
+
+    ghost invariant = { λ t. IsText t.lines };
+}
+
+/// Why lines are no text.
+#[derive(Clone, Copy, Debug, PartialEq, Eq)]
+pub enum TextRefusal {
+    /// A limit of the text is passed (docs/PROGRAM.md, "Limits").
+    TooLong,
+    Memory,
+}
+
+impl Text {
+    /// The text without lines.
+    pub(crate) fn empty(alloc: Global) -> Text
+        ensures { result ≡ [] }
+    {
+        Text {
+            lines: Lines::new(alloc),
+        }
+    }
+
+    /// The text of the lines, where no limit is passed.
+    pub(crate) fn within(_alloc: Global, lines: Lines, limits: Limits) -> Result<Text, TextRefusal>
+        requires fewer_lines { limits.lines < 4294967295 }
+        requires fewer_bytes { limits.bytes < 4294967295 }
+        ensures { IsUnless TextRefusal.Memory (if is_within limits lines then Ok lines else Err TextRefusal.TooLong) result }
+    {
+        if is_within(lines.as_slice(), limits) {
+            Ok(Text { lines })
+        } else {
+            Err(TextRefusal::TooLong)
+        }
+    }
+
+    /// The text of the lines. `TooLong` comes exactly where a limit of the text is passed.
+    pub fn from_lines(alloc: Global, lines: Lines) -> Result<Text, TextRefusal>
+        ensures answer { IsUnless TextRefusal.Memory (if is_within TEXT_LIMITS lines then Ok lines else Err TextRefusal.TooLong) result }
+        ensures text { IfOk result (λ t. t ≡ lines) }
+        ensures within { OnOk result (is_within TEXT_LIMITS lines ≡ true) }
+    {
+        Text::within(alloc, lines, TEXT_LIMITS)
+    }
+
+    /// The lines in order.
+    pub(crate) fn lines(&self) -> &[Line]
+        ensures shown { result.now ≡ self.now }
+        ensures text { IsText self.now }
+    {
+        self.lines.as_slice()
+    }
+
+    /// How many lines the text has. It takes no memory.
+    pub fn count(&self) -> u32
+        ensures count { result ≡ length self.now }
+        ensures text { IsText self.now }
+    {
+        self.lines.len() as u32
+    }
+
+    /// The line with that number, counted from 1. None comes exactly outside 1 to the count.
+    pub fn line(&self, number: u32) -> Option<&Line>
+        ensures { MatchOption result ((number ≡ 0) ⊎ (length self.now < number)) (λ l. (1 ≤ number) × (number ≤ length self.now) × (slice_get self.now (number - 1) ≡ Some l.now)) }
+    {
+        if number == 0 {
+            return None;
+        }
+        self.lines.get(number as usize - 1)
+    }
+}

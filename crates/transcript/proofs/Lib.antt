@@ -1,0 +1,4 @@
+pub mod Again
+pub mod Heads
+pub mod Escapes
+pub mod Texts

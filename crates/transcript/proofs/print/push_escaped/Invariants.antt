@@ -1,0 +1,8 @@
+use Rattle.std.proofs.Common.{◌≡◌, ◌++◌, take}
+use Rattle.std.specs.Str.{encode_utf8_all}
+use Rattle.std.specs.String.{string_bytes}
+use Rattle.transcript.specs.Print.{escaped}
+use Rattle.transcript.proofs.print.push_escaped.Given as goal
+
+abbrev pub invariant-loop-c : goal.invariant-loop-c
+invariant-loop-c l = string_bytes l.out ≡ string_bytes l.fn.out ++ encode_utf8_all (escaped (take l.c-index l.text))

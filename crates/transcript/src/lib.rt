@@ -1,0 +1,18 @@
+//! The transcript of a session: its entries, printed and read.
+#![tactic(auto)]
+
+mod answers;
+mod ends;
+mod entry;
+mod line;
+mod margin;
+mod out;
+mod print;
+mod ranges;
+mod reports;
+#[cfg(test)]
+mod tests;
+mod words;
+
+pub use entry::{Entries, Entry};
+pub use print::print_entry;

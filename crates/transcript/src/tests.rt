@@ -1,0 +1,201 @@
+use crate::line::read_line;
+use crate::{Entry, print_entry};
+use km_base::Memory;
+use kumir_tree::Chars;
+use kumir_values::{EndKind, RunFault};
+use margins::{Margin, Mark};
+use performer_kit::{PenCommand, Reply, RobotCommand, Segment};
+use std::alloc::{AllocError, Global};
+use std::test::Fail;
+
+fn chars(alloc: Global, text: &str) -> Result<Chars, AllocError> {
+    let mut chars = Vec::new(alloc);
+    for c in text.chars() {
+        chars.push(c).map_err(AllocError::from)?;
+    }
+    Ok(Chars::from_vec(chars))
+}
+
+#[test]
+fn answers_print_as_lines(rt: HostRuntime) -> Result<(), Fail> {
+    let alloc = rt.alloc();
+    assert_eq!(rt;
+        print_entry(alloc, &Entry::Edit { version: 2 })?.as_str(),
+        "edit 2\n"
+    );
+    assert_eq!(rt;
+        print_entry(alloc, &Entry::EditRange)?.as_str(),
+        "edit refused range\n"
+    );
+    assert_eq!(rt;
+        print_entry(alloc, &Entry::EditLong)?.as_str(),
+        "edit refused long\n"
+    );
+    assert_eq!(rt;
+        print_entry(alloc, &Entry::EditMany)?.as_str(),
+        "edit refused many\n"
+    );
+    assert_eq!(rt; print_entry(alloc, &Entry::FieldOk)?.as_str(), "field ok\n");
+    assert_eq!(rt;
+        print_entry(alloc, &Entry::FieldBad { line: 1 })?.as_str(),
+        "field bad 1\n"
+    );
+    assert_eq!(rt;
+        print_entry(
+            alloc,
+            &Entry::Run {
+                run: 1,
+                version: 12
+            }
+        )?
+        .as_str(),
+        "run 1 12\n"
+    );
+    assert_eq!(rt;
+        print_entry(alloc, &Entry::RunBusy)?.as_str(),
+        "run refused busy\n"
+    );
+    assert_eq!(rt;
+        print_entry(alloc, &Entry::Stop { run: 1 })?.as_str(),
+        "stop 1\n"
+    );
+    assert_eq!(rt;
+        print_entry(alloc, &Entry::StopIdle)?.as_str(),
+        "stop idle\n"
+    );
+    assert_eq!(rt; print_entry(alloc, &Entry::Waited)?.as_str(), "waited\n");
+    assert_eq!(rt;
+        print_entry(alloc, &Entry::Bad { line: 3 })?.as_str(),
+        "bad 3\n"
+    );
+    assert_eq!(rt;
+        print_entry(alloc, &Entry::RefusedFaults { run: 1 })?.as_str(),
+        "refused 1 faults\n"
+    );
+    assert_eq!(rt;
+        print_entry(alloc, &Entry::RefusedMain { run: 1 })?.as_str(),
+        "refused 1 main\n"
+    );
+    assert_eq!(rt; print_entry(alloc, &Entry::Bye)?.as_str(), "bye\n");
+    Ok(())
+}
+
+#[test]
+fn runs_print_as_lines(rt: HostRuntime) -> Result<(), Fail> {
+    let alloc = rt.alloc();
+    let mut margin = Margin::new(alloc);
+    for (line, code) in [(6, 402), (8, 402)] {
+        assert!(rt; margin.is_before(line));
+        margin.push(Mark { line, code })?;
+    }
+    assert_eq!(rt;
+        print_entry(alloc, &Entry::Margin { version: 6, margin })?.as_str(),
+        "margin 6 6:402 8:402\n"
+    );
+    let out = Entry::Out {
+        run: 1,
+        text: chars(alloc, "а\\\nб ")?,
+    };
+    assert_eq!(rt; print_entry(alloc, &out)?.as_str(), "out 1 а\\\\\\nб \n");
+    let robot = Entry::Robot {
+        run: 1,
+        number: 7,
+        command: RobotCommand::RightFree,
+        reply: Reply::No,
+    };
+    assert_eq!(rt;
+        print_entry(alloc, &robot)?.as_str(),
+        "robot 1 7 справа_свободно нет\n"
+    );
+    let pen = Entry::Pen {
+        run: 1,
+        number: 3,
+        command: PenCommand::By { dx: 1, dy: -2 },
+        reply: Reply::Drawn(Segment {
+            x1: 1,
+            y1: -2,
+            x2: 2_147_483_648,
+            y2: -4,
+        }),
+    };
+    assert_eq!(rt;
+        print_entry(alloc, &pen)?.as_str(),
+        "pen 1 3 сместиться_на_вектор 1 -2 line 1 -2 2147483648 -4\n"
+    );
+    let end = Entry::End {
+        run: 2,
+        end: EndKind::Fault {
+            line: 4,
+            fault: RunFault::InputType,
+        },
+    };
+    assert_eq!(rt;
+        print_entry(alloc, &end)?.as_str(),
+        "end 2 fault 4 input-type\n"
+    );
+    let end = Entry::End {
+        run: 1,
+        end: EndKind::Wall { line: 8 },
+    };
+    assert_eq!(rt; print_entry(alloc, &end)?.as_str(), "end 1 wall 8\n");
+    Ok(())
+}
+
+/// Whether the line is read as an entry that prints as it.
+fn reads(alloc: Global, line: &str) -> Result<bool, Memory> {
+    match read_line(alloc, line)? {
+        Some(_) => Ok(true),
+        None => Ok(false),
+    }
+}
+
+#[test]
+fn lines_of_entries_are_read(rt: HostRuntime) -> Result<(), Fail> {
+    let lines = [
+        "edit 2",
+        "edit refused many",
+        "field ok",
+        "field bad 1",
+        "run 1 12",
+        "run refused busy",
+        "stop 1",
+        "stop idle",
+        "waited",
+        "margin 6 6:402 8:402",
+        "margin 0",
+        "refused 1 main",
+        "out 1 а\\\\\\nб ",
+        "robot 1 7 справа_свободно нет",
+        "pen 1 3 сместиться_на_вектор 1 -2 line 1 -2 2147483648 -4",
+        "pen 1 4 поднять_перо done",
+        "end 2 fault 4 input-type",
+        "bye",
+    ];
+    for line in lines {
+        assert!(rt; reads(rt.alloc(), line)?, "{line}");
+    }
+    Ok(())
+}
+
+#[test]
+fn other_spellings_are_not_read(rt: HostRuntime) -> Result<(), Fail> {
+    let lines = [
+        "",
+        "edit 02",
+        "edit +2",
+        "edit  2",
+        "edit",
+        "bye ",
+        "edit 4294967296",
+        "margin 6 8:402 6:402",
+        "out 1",
+        "out 1 \\а",
+        "robot 1 7 вверх line 0 0 1 1",
+        "pen 1 3 сместиться_на_вектор 1 -0 done",
+        "end 2 fault 4 input",
+    ];
+    for line in lines {
+        assert!(rt; !reads(rt.alloc(), line)?, "{line}");
+    }
+    Ok(())
+}

@@ -1,0 +1,253 @@
+-- The kinds of expressions. docs/LANGUAGE.md, "Types".
+use Rattle.std.specs.Prelude.{ℕ, nat_eq, nat_lt, Bool, true, false, ◌&&◌, not, if◌then◌else◌, List, [], ◌∷◌, length, Option, Some, None, is_some}
+use Rattle.std.specs.Map.{lookup}
+use Rattle.std.specs.Cmp.Lexicographic.{pointwise}
+use Rattle.kumir_tree.specs.declared.kind.Kind.{Kind}
+use Rattle.kumir_tree.specs.declared.kind.Kind.TheVariants.{Whole, Truth}
+use Rattle.kumir_tree.specs.declared.kind.Mode.{Mode}
+use Rattle.kumir_tree.specs.declared.kind.Mode.TheVariants.{Arg, Res, ArgRes}
+use Rattle.kumir_tree.specs.declared.kind.Op.{Op}
+use Rattle.kumir_tree.specs.declared.kind.Op.TheVariants as op
+use Rattle.kumir_tree.specs.Tree as t
+use Rattle.kumir_tree.specs.Tree.{Tree, Trees, no_trees, ◌then◌}
+use Rattle.kumir_tree.specs.Part.{Formal}
+use Rattle.performer_kit.specs.declared.commands.RobotCommand.{RobotCommand}
+use Rattle.performer_kit.specs.declared.commands.RobotCommand.TheVariants as robot
+use Rattle.performer_kit.specs.declared.commands.PenShape.{PenShape}
+use Rattle.performer_kit.specs.declared.commands.PenShape.TheVariants as pen
+use Rattle.type_rules.specs.declared.callee.BuiltIn.{BuiltIn}
+use Rattle.type_rules.specs.declared.callee.BuiltIn.TheVariants as built_in
+use Rattle.type_rules.specs.Callees.{Called, CalledAlgorithm, CalledBuiltIn, CalledRobot, CalledPen}
+use Rattle.type_check.specs.declared.locals.Variable.{Variable}
+
+-- ---- names
+
+-- the local names with their variables, in the order of the text
+abbrev pub Names : Type 0
+Names = List (List ℕ × Variable)
+
+-- what an expression stands among: what other names stand for, the kind of the algorithm, the local names
+pub record Among : Type 0 where
+  pub find : List ℕ → Option Called
+  pub gives : Option Kind
+  pub names : Names
+
+-- the variable with this name
+abbrev pub variable : Names → List ℕ → Option Variable
+variable names x = lookup (pointwise nat_eq x) names
+
+-- a name that is neither local nor stands for anything else
+abbrev pub is_known_as : Option Variable → Option Called → Bool
+is_known_as None found = is_some found
+is_known_as (Some v) found = true
+
+abbrev pub is_known : Among → List ℕ → Bool
+is_known s x = is_known_as (variable s.names x) (s.find x)
+
+-- ---- kinds
+
+abbrev pub same_kind : Kind → Kind → Bool
+same_kind Whole Whole = true
+same_kind Whole Truth = false
+same_kind Truth Whole = false
+same_kind Truth Truth = true
+
+-- there is a kind, and it is this one
+abbrev pub is_kind : Kind → Option Kind → Bool
+is_kind k None = false
+is_kind k (Some found) = same_kind k found
+
+abbrev pub are_same : Option Kind → Option Kind → Bool
+are_same None b = false
+are_same (Some a) b = is_kind a b
+
+-- a kind, where this holds
+abbrev pub given : Bool → Kind → Option Kind
+given true k = Some k
+given false k = None
+
+abbrev pub of_two : Kind → Option Kind → Option Kind → Kind → Option Kind
+of_two k a b result = given (is_kind k a && is_kind k b) result
+
+-- an operator over operands of these kinds
+abbrev pub binary_kind : Op → Option Kind → Option Kind → Option Kind
+binary_kind op.Or a b = of_two Truth a b Truth
+binary_kind op.And a b = of_two Truth a b Truth
+binary_kind op.Equal a b = given (are_same a b) Truth
+binary_kind op.NotEqual a b = given (are_same a b) Truth
+binary_kind op.Less a b = of_two Whole a b Truth
+binary_kind op.Greater a b = of_two Whole a b Truth
+binary_kind op.LessOrEqual a b = of_two Whole a b Truth
+binary_kind op.GreaterOrEqual a b = of_two Whole a b Truth
+binary_kind op.Plus a b = of_two Whole a b Whole
+binary_kind op.Minus a b = of_two Whole a b Whole
+binary_kind op.Times a b = of_two Whole a b Whole
+binary_kind op.Power a b = of_two Whole a b Whole
+
+-- ---- what stands as an index or as an argument
+
+pub record Argument : Type 0 where
+  -- its kind as a value; none where it is not fit to be one
+  pub value : Option Kind
+  -- it is a local name or an element
+  pub place : Bool
+  -- the local table that it is, as a whole
+  pub table : Option Variable
+
+abbrev pub is_table : Variable → Bool
+is_table v = nat_lt 0 v.bounds
+
+abbrev pub all_whole : List Argument → Bool
+all_whole [] = true
+all_whole (a ∷ more) = is_kind Whole a.value && all_whole more
+
+abbrev pub table_fits : Kind → ℕ → Option Variable → Bool
+table_fits k bounds None = false
+table_fits k bounds (Some v) = same_kind k v.kind && nat_eq v.bounds bounds
+
+-- `арг` takes a value of its kind, `рез` and `аргрез` a name or an element of it
+abbrev pub value_fits : Mode → Kind → Argument → Bool
+value_fits Arg k a = is_kind k a.value
+value_fits Res k a = a.place && is_kind k a.value
+value_fits ArgRes k a = a.place && is_kind k a.value
+
+abbrev pub argument_fits_at : Mode → Kind → Option (List (Tree × Tree)) → Argument → Bool
+argument_fits_at mode k None a = value_fits mode k a
+argument_fits_at mode k (Some bounds) a = table_fits k (length bounds) a.table
+
+-- a parameter takes an argument
+abbrev pub argument_fits : Formal → Argument → Bool
+argument_fits p a = argument_fits_at p.mode p.kind p.bounds a
+
+-- there are as many arguments as parameters, and each parameter takes its argument
+abbrev pub arguments_fit : List Formal → List Argument → Bool
+arguments_fit [] [] = true
+arguments_fit [] (a ∷ more) = false
+arguments_fit (p ∷ ps) [] = false
+arguments_fit (p ∷ ps) (a ∷ more) = argument_fits p a && arguments_fit ps more
+
+-- so many numbers
+abbrev pub are_numbers : ℕ → List Argument → Bool
+are_numbers n arguments = nat_eq (length arguments) n && all_whole arguments
+
+-- how many numbers a built-in takes
+abbrev pub arity : BuiltIn → ℕ
+arity built_in.Div = 2
+arity built_in.Mod = 2
+arity built_in.Iabs = 1
+arity built_in.Imin = 2
+arity built_in.Imax = 2
+
+-- how many numbers a command of the Draughtsman takes
+abbrev pub numbers : PenShape → ℕ
+numbers pen.Raise = 0
+numbers pen.Lower = 0
+numbers pen.To = 2
+numbers pen.By = 2
+
+-- whether a command of the Robot is a test
+abbrev pub is_test : RobotCommand → Bool
+is_test robot.Up = false
+is_test robot.Down = false
+is_test robot.Left = false
+is_test robot.Right = false
+is_test robot.Paint = false
+is_test robot.AboveFree = true
+is_test robot.BelowFree = true
+is_test robot.LeftFree = true
+is_test robot.RightFree = true
+is_test robot.AboveWall = true
+is_test robot.BelowWall = true
+is_test robot.LeftWall = true
+is_test robot.RightWall = true
+is_test robot.CellPainted = true
+is_test robot.CellClean = true
+
+abbrev pub where_gives : Bool → Option Kind → Option Kind
+where_gives true k = k
+where_gives false k = None
+
+-- A call in an expression: of an algorithm with a kind, a built-in or a test.
+abbrev pub answer_kind : Option Called → List Argument → Option Kind
+answer_kind None arguments = None
+answer_kind (Some (CalledAlgorithm h)) arguments = where_gives (arguments_fit h.params arguments) h.gives
+answer_kind (Some (CalledBuiltIn b)) arguments = given (are_numbers (arity b) arguments) Whole
+answer_kind (Some (CalledRobot c)) arguments = given (is_test c && are_numbers 0 arguments) Truth
+answer_kind (Some (CalledPen s)) arguments = None
+
+-- A call as a piece of its own: of an algorithm without a kind or a command that is no test.
+abbrev pub command_fits : Option Called → List Argument → Bool
+command_fits None arguments = false
+command_fits (Some (CalledAlgorithm h)) arguments = not (is_some h.gives) && arguments_fit h.params arguments
+command_fits (Some (CalledBuiltIn b)) arguments = false
+command_fits (Some (CalledRobot c)) arguments = not (is_test c) && are_numbers 0 arguments
+command_fits (Some (CalledPen s)) arguments = are_numbers (numbers s) arguments
+
+-- ---- names in expressions
+
+-- a name alone: a variable that is no table, or a call without arguments where the name is not local
+abbrev pub name_kind : Option Variable → Option Called → Option Kind
+name_kind None found = answer_kind found []
+name_kind (Some v) found = given (not (is_table v)) v.kind
+
+-- a name with indexes: an element of a table that has as many bounds
+abbrev pub element_kind : Option Variable → List Argument → Option Kind
+element_kind None indexes = None
+element_kind (Some v) indexes = given (is_table v && are_numbers v.bounds indexes) v.kind
+
+-- a name with parentheses: a call, where the name is not local
+abbrev pub call_kind : Option Variable → Option Called → List Argument → Option Kind
+call_kind None found arguments = answer_kind found arguments
+call_kind (Some v) found arguments = None
+
+abbrev pub is_place : Names → Tree → Bool
+is_place names (t.Number n) = false
+is_place names (t.Truth b) = false
+is_place names t.Answer = false
+is_place names (t.Named x) = is_some (variable names x)
+is_place names (t.Element x es) = true
+is_place names (t.Call f es) = false
+is_place names (t.Plus a) = false
+is_place names (t.Minus a) = false
+is_place names (t.Not a) = false
+is_place names (t.Binary o a b) = false
+
+abbrev pub as_table : Option Variable → Option Variable
+as_table None = None
+as_table (Some v) = if is_table v then Some v else None
+
+abbrev pub whole_table : Names → Tree → Option Variable
+whole_table names (t.Number n) = None
+whole_table names (t.Truth b) = None
+whole_table names t.Answer = None
+whole_table names (t.Named x) = as_table (variable names x)
+whole_table names (t.Element x es) = None
+whole_table names (t.Call f es) = None
+whole_table names (t.Plus a) = None
+whole_table names (t.Minus a) = None
+whole_table names (t.Not a) = None
+whole_table names (t.Binary o a b) = None
+
+-- ---- the kind of an expression; none where a rule is broken in it
+
+abbrev mutual
+  pub kind_of : Among → Tree → Option Kind
+  -- a number
+  kind_of s (t.Number n) = Some Whole
+  -- `да` and `нет`
+  kind_of s (t.Truth b) = Some Truth
+  -- `знач`, in an algorithm with a kind
+  kind_of s t.Answer = s.gives
+  kind_of s (t.Named x) = name_kind (variable s.names x) (s.find x)
+  kind_of s (t.Element x es) = element_kind (variable s.names x) (arguments s es)
+  kind_of s (t.Call f es) = call_kind (variable s.names f) (s.find f) (arguments s es)
+  -- signs before a number
+  kind_of s (t.Plus a) = given (is_kind Whole (kind_of s a)) Whole
+  kind_of s (t.Minus a) = given (is_kind Whole (kind_of s a)) Whole
+  -- `не`
+  kind_of s (t.Not a) = given (is_kind Truth (kind_of s a)) Truth
+  kind_of s (t.Binary o a b) = binary_kind o (kind_of s a) (kind_of s b)
+
+  pub arguments : Among → Trees → List Argument
+  arguments s no_trees = []
+  arguments s (e then es) = record { value = kind_of s e; place = is_place s.names e; table = whole_table s.names e } ∷ arguments s es

@@ -1,0 +1,10 @@
+-- What the faults of an algorithm depend on.
+use Rattle.std.specs.Prelude.{◌≡◌, ℕ, List, Option}
+use Rattle.std.specs.List.{AllByRecursion}
+use Rattle.kumir_tree.specs.Unit.{Algorithm}
+use Rattle.type_rules.specs.Callees.{Called}
+use Rattle.type_check.specs.Checked.{asked, unit_faults}
+
+-- where two look-ups answer alike for each name that an algorithm asks for, they give it the same faults
+abbrev pub AsksForAll : Type 0
+AsksForAll = (a : Algorithm) (find other : List ℕ → Option Called) → AllByRecursion (λ x. find x ≡ other x) (asked a) → unit_faults find a ≡ unit_faults other a

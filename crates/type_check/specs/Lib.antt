@@ -1,0 +1,10 @@
+pub mod Kinds
+pub mod Parts
+pub mod Checked
+pub mod Scopes
+pub mod Seen
+pub mod Laws
+pub mod Margin
+pub mod Kept
+pub mod Refused
+pub mod Placed

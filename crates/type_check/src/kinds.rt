@@ -1,0 +1,408 @@
+//! The kinds of expressions (docs/LANGUAGE.md, "Types").
+
+ghost use Rattle.std.specs.Prelude.{◌≡◌, ◌&&◌, nat_eq, length, map, [], None};
+ghost use Rattle.kumir_tree.specs.Tree as t;
+ghost use Rattle.kumir_tree.specs.Seen.{tree, trees};
+ghost use Rattle.kumir_tree.specs.Parts.{formal_of};
+ghost use Rattle.kumir_tree.specs.Seen.{some_tree};
+ghost use Rattle.type_rules.specs.Headers.{some_called};
+ghost use Rattle.type_check.specs.Kinds as k;
+ghost use Rattle.type_check.specs.Scopes.{among, argument, call_fits_at};
+ghost use Rattle.type_check.specs.Parts.{scalar_kind};
+
+use crate::locals::{Locals, Variable};
+use kumir_tree::{Expr, Kind, Mode, Name, Op, Param};
+use performer_kit::{PenShape, RobotCommand};
+use type_rules::{BuiltIn, Callee, Headers};
+
+/// What an expression stands among.
+#[derive(Clone, Copy)]
+pub struct Scope<'a> {
+    pub headers: &'a Headers,
+    /// The kind of the algorithm.
+    pub gives: Option<Kind>,
+    pub locals: &'a Locals,
+}
+
+fn same_kind(a: Kind, b: Kind) -> bool
+    ensures { result ≡ k.same_kind a b }
+{
+    match a {
+        Kind::Whole => matches!(b, Kind::Whole),
+        Kind::Truth => matches!(b, Kind::Truth),
+    }
+}
+
+/// Whether there is a kind and it is this one.
+pub fn is_kind(kind: Kind, found: Option<Kind>) -> bool
+    ensures { result ≡ k.is_kind kind found }
+{
+    match found {
+        Some(found) => same_kind(kind, found),
+        None => false,
+    }
+}
+
+/// Whether both are there and the same.
+pub fn are_same(a: Option<Kind>, b: Option<Kind>) -> bool
+    ensures { result ≡ k.are_same a b }
+{
+    match a {
+        Some(a) => is_kind(a, b),
+        None => false,
+    }
+}
+
+/// The kind, where this holds.
+fn given(holds: bool, kind: Kind) -> Option<Kind>
+    ensures { result ≡ k.given holds kind }
+{
+    if holds { Some(kind) } else { None }
+}
+
+fn of_two(kind: Kind, a: Option<Kind>, b: Option<Kind>, result_kind: Kind) -> Option<Kind>
+    ensures { result ≡ k.of_two kind a b result_kind }
+{
+    let right = is_kind(kind, b);
+    given(is_kind(kind, a) && right, result_kind)
+}
+
+fn where_gives(holds: bool, kind: Option<Kind>) -> Option<Kind>
+    ensures { result ≡ k.where_gives holds kind }
+{
+    if holds { kind } else { None }
+}
+
+/// The kind of an operator over operands of these kinds.
+fn binary_kind(op: Op, a: Option<Kind>, b: Option<Kind>) -> Option<Kind>
+    ensures { result ≡ k.binary_kind op a b }
+{
+    match op {
+        Op::Or => of_two(Kind::Truth, a, b, Kind::Truth),
+        Op::And => of_two(Kind::Truth, a, b, Kind::Truth),
+        Op::Equal => given(are_same(a, b), Kind::Truth),
+        Op::NotEqual => given(are_same(a, b), Kind::Truth),
+        Op::Less => of_two(Kind::Whole, a, b, Kind::Truth),
+        Op::Greater => of_two(Kind::Whole, a, b, Kind::Truth),
+        Op::LessOrEqual => of_two(Kind::Whole, a, b, Kind::Truth),
+        Op::GreaterOrEqual => of_two(Kind::Whole, a, b, Kind::Truth),
+        Op::Plus => of_two(Kind::Whole, a, b, Kind::Whole),
+        Op::Minus => of_two(Kind::Whole, a, b, Kind::Whole),
+        Op::Times => of_two(Kind::Whole, a, b, Kind::Whole),
+        Op::Power => of_two(Kind::Whole, a, b, Kind::Whole),
+    }
+}
+
+fn is_table(variable: Variable) -> bool
+    ensures { result ≡ k.is_table variable }
+{
+    0 < variable.bounds
+}
+
+/// The kind of a variable that is no table.
+pub fn scalar_kind_of(variable: Option<Variable>) -> Option<Kind>
+    ensures { result ≡ scalar_kind variable }
+{
+    match variable {
+        Some(variable) => given(!is_table(variable), variable.kind),
+        None => None,
+    }
+}
+
+fn arity(built_in: BuiltIn) -> usize
+    ensures { result ≡ k.arity built_in }
+{
+    match built_in {
+        BuiltIn::Div => 2,
+        BuiltIn::Mod => 2,
+        BuiltIn::Iabs => 1,
+        BuiltIn::Imin => 2,
+        BuiltIn::Imax => 2,
+    }
+}
+
+fn numbers(shape: PenShape) -> usize
+    ensures { result ≡ k.numbers shape }
+{
+    match shape {
+        PenShape::Raise => 0,
+        PenShape::Lower => 0,
+        PenShape::To => 2,
+        PenShape::By => 2,
+    }
+}
+
+fn is_test(command: RobotCommand) -> bool
+    ensures { result ≡ k.is_test command }
+{
+    match command {
+        RobotCommand::Up => false,
+        RobotCommand::Down => false,
+        RobotCommand::Left => false,
+        RobotCommand::Right => false,
+        RobotCommand::Paint => false,
+        RobotCommand::AboveFree => true,
+        RobotCommand::BelowFree => true,
+        RobotCommand::LeftFree => true,
+        RobotCommand::RightFree => true,
+        RobotCommand::AboveWall => true,
+        RobotCommand::BelowWall => true,
+        RobotCommand::LeftWall => true,
+        RobotCommand::RightWall => true,
+        RobotCommand::CellPainted => true,
+        RobotCommand::CellClean => true,
+    }
+}
+
+#[tactic(auto, using(kumir_tree::proofs::Views::views))]
+fn is_place(scope: &Scope<'_>, e: &Expr) -> bool
+    ensures { result ≡ k.is_place (among scope.now).names (tree e.now) }
+{
+    match e {
+        Expr::Number(_) => false,
+        Expr::Truth(_) => false,
+        Expr::Result => false,
+        Expr::Named(x) => scope.locals.get(x).is_some(),
+        Expr::Element(_, _) => true,
+        Expr::Call(_, _) => false,
+        Expr::Plus(_) => false,
+        Expr::Minus(_) => false,
+        Expr::Not(_) => false,
+        Expr::Binary(_, _, _) => false,
+    }
+}
+
+fn as_table(variable: Option<Variable>) -> Option<Variable>
+    ensures { result ≡ k.as_table variable }
+{
+    match variable {
+        Some(variable) => if is_table(variable) {
+            Some(variable)
+        } else {
+            None
+        },
+        None => None,
+    }
+}
+
+/// The local table that the expression is as a whole.
+#[tactic(auto, using(kumir_tree::proofs::Views::views))]
+fn whole_table(scope: &Scope<'_>, e: &Expr) -> Option<Variable>
+    ensures { result ≡ k.whole_table (among scope.now).names (tree e.now) }
+{
+    match e {
+        Expr::Number(_) => None,
+        Expr::Truth(_) => None,
+        Expr::Result => None,
+        Expr::Named(x) => as_table(scope.locals.get(x)),
+        Expr::Element(_, _) => None,
+        Expr::Call(_, _) => None,
+        Expr::Plus(_) => None,
+        Expr::Minus(_) => None,
+        Expr::Not(_) => None,
+        Expr::Binary(_, _, _) => None,
+    }
+}
+
+fn table_fits(kind: Kind, bounds: usize, found: Option<Variable>) -> bool
+    ensures { result ≡ k.table_fits kind bounds found }
+{
+    match found {
+        Some(found) => same_kind(kind, found.kind) && found.bounds == bounds,
+        None => false,
+    }
+}
+
+fn value_fits(mode: Mode, kind: Kind, value: Option<Kind>, place: bool) -> bool
+    ensures { result ≡ k.value_fits mode kind (record { value = value; place = place; table = None }) }
+{
+    match mode {
+        Mode::Arg => is_kind(kind, value),
+        Mode::Res => place && is_kind(kind, value),
+        Mode::ArgRes => place && is_kind(kind, value),
+    }
+}
+
+/// The kind of an expression; none where a rule is broken in it.
+#[cycle(kinds)]
+#[tactic(auto, using(kumir_tree::proofs::Views::views))]
+pub fn kind_of(scope: &Scope<'_>, e: &Expr) -> Option<Kind>
+    ensures { result ≡ k.kind_of (among scope.now) (tree e.now) }
+{
+    match e {
+        Expr::Number(_) => Some(Kind::Whole),
+        Expr::Truth(_) => Some(Kind::Truth),
+        Expr::Result => scope.gives,
+        Expr::Named(x) => name_kind(scope, x),
+        Expr::Element(x, indexes) => element_kind(scope, x, indexes.as_slice()),
+        Expr::Call(f, arguments) => call_kind(scope, f, arguments.as_slice()),
+        Expr::Plus(a) => given(is_kind(Kind::Whole, kind_of(scope, a.get())), Kind::Whole),
+        Expr::Minus(a) => given(is_kind(Kind::Whole, kind_of(scope, a.get())), Kind::Whole),
+        Expr::Not(a) => given(is_kind(Kind::Truth, kind_of(scope, a.get())), Kind::Truth),
+        Expr::Binary(op, a, b) => {
+            let left = kind_of(scope, a.get());
+            binary_kind(*op, left, kind_of(scope, b.get()))
+        }
+    }
+}
+
+#[tactic(auto, using(crate::proofs::Arguments::end_fits))]
+fn takes_none(params: &[Param]) -> bool
+    ensures { result ≡ k.arguments_fit (map formal_of params.now) [] }
+{
+    params.get(0).is_none()
+}
+
+/// A call without arguments.
+fn bare_kind(found: Option<Callee<'_>>) -> Option<Kind>
+    ensures { result ≡ k.answer_kind (some_called found.entry) [] }
+{
+    match found {
+        Some(Callee::Algorithm(header)) => {
+            where_gives(takes_none(header.params.as_slice()), header.gives)
+        },
+        Some(Callee::BuiltIn(built_in)) => given(arity(built_in) == 0, Kind::Whole),
+        Some(Callee::Robot(command)) => given(is_test(command), Kind::Truth),
+        Some(Callee::Pen(_)) => None,
+        None => None,
+    }
+}
+
+/// A name alone: a variable that is no table, or a call without arguments where the name is not local.
+fn name_kind(scope: &Scope<'_>, x: &Name) -> Option<Kind>
+    ensures { result ≡ k.kind_of (among scope.now) (t.Named x.now) }
+{
+    match scope.locals.get(x) {
+        Some(variable) => given(!is_table(variable), variable.kind),
+        None => bare_kind(scope.headers.find(x)),
+    }
+}
+
+/// An element of a table that has as many bounds.
+#[cycle(kinds)]
+pub fn element_kind(scope: &Scope<'_>, x: &Name, indexes: &[Expr]) -> Option<Kind>
+    ensures { result ≡ k.element_kind (k.variable (among scope.now).names x.now) (k.arguments (among scope.now) (trees indexes.now)) }
+{
+    match scope.locals.get(x) {
+        Some(variable) => {
+            let right = are_numbers(scope, variable.bounds, indexes);
+            given(is_table(variable) && right, variable.kind)
+        }
+        None => None,
+    }
+}
+
+/// A call, where the name is not local.
+#[cycle(kinds)]
+fn call_kind(scope: &Scope<'_>, f: &Name, arguments: &[Expr]) -> Option<Kind>
+    ensures { result ≡ k.call_kind (k.variable (among scope.now).names f.now) ((among scope.now).find f.now) (k.arguments (among scope.now) (trees arguments.now)) }
+{
+    match scope.locals.get(f) {
+        Some(_) => None,
+        None => answer_kind(scope, scope.headers.find(f), arguments),
+    }
+}
+
+#[cycle(kinds)]
+fn answer_kind(scope: &Scope<'_>, found: Option<Callee<'_>>, arguments: &[Expr]) -> Option<Kind>
+    ensures { result ≡ k.answer_kind (some_called found.entry) (k.arguments (among scope.now) (trees arguments.now)) }
+{
+    match found {
+        Some(Callee::Algorithm(header)) => {
+            let fit = arguments_fit(scope, header.params.as_slice(), arguments);
+            where_gives(fit, header.gives)
+        }
+        Some(Callee::BuiltIn(built_in)) => {
+            given(are_numbers(scope, arity(built_in), arguments), Kind::Whole)
+        }
+        Some(Callee::Robot(command)) => {
+            let none = are_numbers(scope, 0, arguments);
+            given(is_test(command) && none, Kind::Truth)
+        }
+        Some(Callee::Pen(_)) => None,
+        None => None,
+    }
+}
+
+/// So many numbers.
+#[cycle(kinds)]
+#[tactic(auto, using(crate::proofs::Arguments::arguments_length))]
+fn are_numbers(scope: &Scope<'_>, count: usize, arguments: &[Expr]) -> bool
+    ensures { result ≡ k.are_numbers count (k.arguments (among scope.now) (trees arguments.now)) }
+{
+    let whole = all_whole(scope, arguments);
+    arguments.len() == count && whole
+}
+
+#[cycle(kinds)]
+fn all_whole(scope: &Scope<'_>, arguments: &[Expr]) -> bool
+    ensures { result ≡ k.all_whole (k.arguments (among scope.now) (trees arguments.now)) }
+{
+    let mut whole = true;
+    for e in arguments {
+        let right = is_kind(Kind::Whole, kind_of(scope, e));
+        whole = whole && right;
+    }
+    whole
+}
+
+/// Whether the parameter takes the argument.
+#[cycle(kinds)]
+fn argument_fits(scope: &Scope<'_>, param: &Param, e: &Expr) -> bool
+    ensures { result ≡ k.argument_fits (formal_of param.now) (argument (among scope.now) (tree e.now)) }
+{
+    match &param.bounds {
+        Some(bounds) => table_fits(param.kind, bounds.len(), whole_table(scope, e)),
+        None => {
+            let value = kind_of(scope, e);
+            value_fits(param.mode, param.kind, value, is_place(scope, e))
+        }
+    }
+}
+
+/// Whether there are as many arguments as parameters and each parameter takes its argument.
+#[cycle(kinds)]
+#[tactic(auto, using(crate::proofs::Arguments::end_fits))]
+fn arguments_fit(scope: &Scope<'_>, params: &[Param], arguments: &[Expr]) -> bool
+    ensures { result ≡ k.arguments_fit (map formal_of params.now) (k.arguments (among scope.now) (trees arguments.now)) }
+{
+    let mut fit = true;
+    let mut at: usize = 0;
+    for e in arguments {
+        let Some(param) = params.get(at) else {
+            return false;
+        };
+        let right = argument_fits(scope, param, e);
+        fit = fit && right;
+        at += 1;
+    }
+    fit && params.get(at).is_none()
+}
+
+/// Whether the call fits as a piece of its own, where the name is not local.
+pub fn call_fits(scope: &Scope<'_>, f: &Name, arguments: &[Expr]) -> bool
+    ensures { result ≡ call_fits_at (among scope.now) f.now (trees arguments.now) }
+{
+    match scope.locals.get(f) {
+        Some(_) => false,
+        None => command_fits(scope, scope.headers.find(f), arguments),
+    }
+}
+
+fn command_fits(scope: &Scope<'_>, found: Option<Callee<'_>>, arguments: &[Expr]) -> bool
+    ensures { result ≡ k.command_fits (some_called found.entry) (k.arguments (among scope.now) (trees arguments.now)) }
+{
+    match found {
+        Some(Callee::Algorithm(header)) => {
+            let fit = arguments_fit(scope, header.params.as_slice(), arguments);
+            header.gives.is_none() && fit
+        }
+        Some(Callee::BuiltIn(_)) => false,
+        Some(Callee::Robot(command)) => {
+            let none = are_numbers(scope, 0, arguments);
+            !is_test(command) && none
+        }
+        Some(Callee::Pen(shape)) => are_numbers(scope, numbers(shape), arguments),
+        None => false,
+    }
+}

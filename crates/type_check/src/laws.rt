@@ -1,0 +1,8 @@
+//! A law of the definitions, which no code needs to run.
+
+ghost use Rattle.type_check.specs.Laws.{AsksForAll};
+
+/// The faults of an algorithm depend on no other look-ups than those of the names that it asks for.
+pub fn faults_depend_on_asked_names()
+    ensures { AsksForAll }
+{}

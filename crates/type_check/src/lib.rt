@@ -1,0 +1,23 @@
+//! Names and types: the faults of an algorithm, the margin of a program, programs without a fault.
+#![tactic(auto)]
+
+mod asked;
+mod check;
+mod clean;
+mod fits;
+mod found;
+mod kinds;
+mod laws;
+mod locals;
+mod margin;
+mod parts;
+mod refusal;
+#[cfg(test)]
+mod tests;
+mod uses;
+
+pub use check::{UnitFaults, check_unit};
+pub use clean::{Clean, clean_of};
+pub use laws::faults_depend_on_asked_names;
+pub use margin::margin_of;
+pub use refusal::CleanRefusal;
