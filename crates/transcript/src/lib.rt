@@ -4,9 +4,9 @@
 mod answers;
 mod ends;
 mod entry;
+mod escaped;
 mod line;
 mod margin;
-mod out;
 mod print;
 mod ranges;
 mod reports;

@@ -6,8 +6,8 @@ ghost use Rattle.transcript.specs.declared.entry.Entry.{Entry};
 ghost use Rattle.transcript.specs.Print.{entry_line, IsEntry, IsPrintable};
 
 use crate::entry::Entry;
+use crate::escaped::read_out;
 use crate::margin::read_margin;
-use crate::out::read_out;
 use crate::print::push_line;
 use crate::ranges::in_range;
 use crate::words::{read_words, words_of};

@@ -37,6 +37,7 @@ fn unescape(alloc: Global, text: &[char]) -> Result<Vec<char>, AllocError>
     Ok(out)
 }
 
+#[tactic(auto, using(std::proofs::lemmas::Str::chars_from_encodes))]
 fn characters(alloc: Global, text: &str) -> Result<Vec<char>, AllocError>
     ensures { IfOk result (λ all. all.items ≡ chars text.now) }
 {
