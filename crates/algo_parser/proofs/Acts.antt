@@ -12,7 +12,10 @@ use Rattle.kumir_tree.proofs.Views.{act_times, act_while, act_count, act_forever
 use Rattle.std.specs.Prelude.{reverse}
 use Rattle.std.proofs.lemmas.List.{map-append, length-map, length-reverse, reverse-append}
 use Rattle.std.proofs.Common.{length}
-use Rattle.algo_parser.specs.Views.{arm_of, frame_of, stack_of, body_of, ended}
+use Rattle.kumir_tree.specs.Parts.{head_of}
+use Rattle.kumir_tree.specs.Units.{some_claim}
+use Rattle.algo_parser.specs.declared.states.Top.{Top}
+use Rattle.algo_parser.specs.Views.{arm_of, frame_of, stack_of, top_of, body_of, ended}
 use Rattle.algo_parser.specs.Machine as machine
 use Rattle.algo_parser.specs.Stages.{open_blocks}
 use Rattle.std.proofs.lemmas.List.Sums.{fold-append}
@@ -91,8 +94,8 @@ read_more fs f = fold-append advanced (Going machine.Empty 0) fs (f ∷ [])
 
 -- ---- the last form
 
-pub finish_none : (line : ℕ) (t : machine.Top) (here : List p.Stmt) (stack : List machine.Frame) → stack ≡ [] → machine.finish line t here stack ≡ Some (machine.Whole (record { head = t.head; given = t.given; wanted = t.wanted; body = block_listed here; close = line }))
-finish_none line t here stack e = ap (machine.finish line t here) e
+pub finish_none : (line : ℕ) (t : Top) (here : List Statement) (stack : List machine.Frame) → stack ≡ [] → Some (machine.Whole (record { head = head_of t.header; given = some_claim t.given; wanted = some_claim t.wanted; body = block_of here; close = line })) ≡ machine.finish line (top_of t) (map stmt_of here) stack
+finish_none line t here stack e = ap (λ b. Some (machine.Whole (record { head = head_of t.header; given = some_claim t.given; wanted = some_claim t.wanted; body = b; close = line }))) (block_map here) ∙ sym (ap (machine.finish line (top_of t) (map stmt_of here)) e)
 
 pub finish_some : (line : ℕ) (t : machine.Top) (here : List p.Stmt) (stack rest : List machine.Frame) (f : machine.Frame) → stack ≡ f ∷ rest → machine.finish line t here stack ≡ None
 finish_some line t here stack rest f e = ap (machine.finish line t here) e

@@ -4,6 +4,7 @@ pub mod Prefixes
 pub mod Places
 pub mod Firsts
 pub mod Acts
+pub mod Steps
 pub mod Lengths
 pub mod Hears
 pub mod Gathers

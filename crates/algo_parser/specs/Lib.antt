@@ -6,5 +6,6 @@ pub mod Structure
 pub mod Units
 pub mod Machine
 pub mod Views
+pub mod Kinds
 pub mod Hearing
 pub mod Progress

@@ -1,4 +1,4 @@
-//! Pieces of lines, units of texts, and the grammar of units.
+//! Pieces of lines, units of texts, and the trees of units.
 #![tactic(auto)]
 
 mod frames;
@@ -11,7 +11,9 @@ mod states;
 mod structure;
 #[cfg(test)]
 mod tests;
+mod unit;
 
 pub use laws::{begins_unit, one_algorithm};
 pub use pieces::{Piece, Pieces, cut_pieces};
 pub use spans::{LineSpan, UnitSpans, split_units};
+pub use unit::read_unit;

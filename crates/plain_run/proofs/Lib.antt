@@ -4,3 +4,5 @@ pub mod Runs
 pub mod Sizes
 pub mod Limits
 pub mod Feeds
+pub mod Within
+pub mod Checks

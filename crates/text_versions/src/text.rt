@@ -1,8 +1,9 @@
 //! Texts.
-ghost use Rattle.std.specs.Prelude.{◌≡◌, ◌-◌, ◌<◌, ◌≤◌, ◌⊎◌, [], true, length, slice_get, Some, Ok, Err, MatchOption, IfOk, OnOk, if◌then◌else◌};
+ghost use Rattle.std.specs.Prelude.{◌≡◌, ◌-◌, ◌+◌, ◌++◌, take, drop, ◌<◌, ◌≤◌, ◌⊎◌, [], true, length, slice_get, Some, Ok, Err, MatchOption, IfOk, OnOk, if◌then◌else◌};
 ghost use Rattle.text_versions.specs.Texts.{IsText, IsUnless, is_within};
 
 use crate::limits::{Limits, TEXT_LIMITS, is_within};
+use km_base::Memory;
 use kumir_tree::{Line, Lines};
 use std::alloc::Global;
 use std::marker::Model;
@@ -23,6 +24,16 @@ impl Model for Text {
     ghost view = { λ t. t.lines };
 
     ghost invariant = { λ t. IsText t.lines };
+}
+
+/// Copies the lines to the end of `out`.
+pub(crate) fn copy_lines(alloc: Global, out: &mut Lines, lines: &[Line]) -> Result<(), Memory>
+    ensures { OnOk result (out.new ≡ out.old ++ lines.now) }
+{
+    for line in lines {
+        out.push(line.copy(alloc)?)?;
+    }
+    Ok(())
 }
 
 /// Why lines are no text.
@@ -89,5 +100,17 @@ impl Text {
             return None;
         }
         self.lines.get(number as usize - 1)
+    }
+
+    /// The `count` lines from line `from` on, counted from 1.
+    pub fn piece(&self, alloc: Global, from: u32, count: u32) -> Result<Lines, Memory>
+        requires counted { 1 ≤ from }
+        requires within { from - 1 + count ≤ length self.now }
+        ensures { IfOk result (λ lines. lines ≡ take count (drop (from - 1) self.now)) }
+    {
+        let from = from as usize - 1;
+        let mut lines = Lines::new(alloc);
+        copy_lines(alloc, &mut lines, &self.lines.as_slice()[from..from + count as usize])?;
+        Ok(lines)
     }
 }

@@ -6,7 +6,7 @@ ghost use Rattle.text_versions.specs.Edits.{is_in_range, edited, text_after, ver
 
 use crate::edit::Edit;
 use crate::limits::{Limits, TEXT_LIMITS};
-use crate::text::{Text, TextRefusal};
+use crate::text::{Text, TextRefusal, copy_lines};
 use km_base::{Memory, Noted};
 use kumir_tree::{Line, Lines};
 use std::alloc::Global;
@@ -56,16 +56,6 @@ impl From<Memory> for ApplyRefusal {
     fn from(_refused: Memory) -> ApplyRefusal {
         ApplyRefusal::Memory
     }
-}
-
-/// Copies the lines to the end of `out`.
-fn copy_lines(alloc: Global, out: &mut Lines, lines: &[Line]) -> Result<(), Memory>
-    ensures { OnOk result (out.new ≡ out.old ++ lines.now) }
-{
-    for line in lines {
-        out.push(line.copy(alloc)?)?;
-    }
-    Ok(())
 }
 
 /// The lines as the edit leaves them.

@@ -4,11 +4,12 @@ ghost use Rattle.std.specs.Prelude.{◌≡◌, ◌≢◌, ◌↔◌, map, None, 
 ghost use Rattle.std.specs.String.{string_bytes};
 ghost use Rattle.km_ports.specs.declared.status.Status.TheVariants as status;
 ghost use Rattle.workbench.specs.Words.{command_of};
+ghost use Rattle.plain_run.specs.Checked.{AnswersCheck};
 ghost use Rattle.plain_run.specs.Printed.{AnswersTokens};
 ghost use Rattle.plain_run.specs.Runs.{IsTextRun, IsUntouched, ports};
 
 use km_ports::{Sink, Source, Status};
-use plain_run::tokens_text;
+use plain_run::{check_text, tokens_text};
 use std::alloc::Global;
 
 /// A command of the program (docs/PROGRAM.md, "Commands").
@@ -16,6 +17,8 @@ use std::alloc::Global;
 pub enum Command {
     /// Prints the tokens of a text.
     Tokens,
+    /// Prints the margin of a text.
+    Check,
 }
 
 // The command that these words are, if they are one.
@@ -24,6 +27,7 @@ fn command_of(words: &[String]) -> Option<Command>
 {
     match words {
         [word] if word.as_str() == "tokens" => Some(Command::Tokens),
+        [word] if word.as_str() == "check" => Some(Command::Check),
         _ => None,
     }
 }
@@ -42,11 +46,14 @@ pub fn workbench<I: Source, O: Sink>(
 
     ensures tokens { command_of (map (λ word. string_bytes word) words.now) ≡ Some Command.Tokens → IsTextRun AnswersTokens (ports (I.left input.old) (I.left input.new) (I.faults input.old) (I.faults input.new) (O.written output.old) (O.written output.new) (O.faults output.old) (O.faults output.new)) result }
 
-    // Faults come from no command yet.
-    ensures unfaulted { result ≢ status.Faults }
+    ensures check { command_of (map (λ word. string_bytes word) words.now) ≡ Some Command.Check → IsTextRun AnswersCheck (ports (I.left input.old) (I.left input.new) (I.faults input.old) (I.faults input.new) (O.written output.old) (O.written output.new) (O.faults output.old) (O.faults output.new)) result }
+
+    // Faults come from `check` alone.
+    ensures unfaulted { result ≡ status.Faults → command_of (map (λ word. string_bytes word) words.now) ≡ Some Command.Check }
 {
     match command_of(words) {
         Some(Command::Tokens) => tokens_text(alloc, input, output),
+        Some(Command::Check) => check_text(alloc, input, output),
         None => Status::Words,
     }
 }

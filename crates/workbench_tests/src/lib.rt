@@ -2,4 +2,8 @@
 #![tactic(auto)]
 
 #[cfg(test)]
+mod check;
+#[cfg(test)]
+mod runs;
+#[cfg(test)]
 mod tokens;

@@ -1,26 +1,8 @@
+use crate::runs::{answer, words_of};
 use km_ports::{Excess, MemSink, MemSource, Source, Status, SureSource, VecSink};
 use std::alloc::{AllocError, Global};
 use std::test::Fail;
 use workbench::{Complaint, workbench};
-
-// The words of a command line, parted by blanks.
-fn words_of(alloc: Global, line: &str) -> Result<Vec<String>, AllocError> {
-    let mut words = Vec::new(alloc);
-    for word in line.split(' ') {
-        words.push(String::from_str(alloc, word)?)?;
-    }
-    Ok(words)
-}
-
-// What `tokens` answers and writes for this input, over a source and a sink that never fail.
-fn tokens(alloc: Global, input: &[u8]) -> Result<(Status, String), Fail> {
-    let words = words_of(alloc, "tokens")?;
-    let mut source = SureSource::new(Vec::from_slice(alloc, input)?);
-    let mut sink = VecSink::new(alloc);
-    let status = workbench(alloc, words.as_slice(), &mut source, &mut sink);
-    let text = String::from_utf8_lossy(alloc, sink.written())?;
-    Ok((status, text))
-}
 
 const TEXTS: [(&[u8], &str); 7] = [
     (b"", ""),
@@ -47,8 +29,8 @@ const TEXTS: [(&[u8], &str); 7] = [
 #[test]
 fn texts_are_cut_line_by_line(rt: HostRuntime) -> Result<(), Fail> {
     for (input, wanted) in TEXTS {
-        let (status, text) = tokens(rt.alloc(), input)?;
-        assert_eq!(rt; status.number(), 0, "at {wanted}");
+        let (status, text) = answer(rt.alloc(), "tokens", input)?;
+        assert_eq!(rt; status.number(), 0);
         assert_eq!(rt; text.as_str(), wanted);
     }
     Ok(())
@@ -56,7 +38,7 @@ fn texts_are_cut_line_by_line(rt: HostRuntime) -> Result<(), Fail> {
 
 #[test]
 fn input_that_is_no_text_is_refused(rt: HostRuntime) -> Result<(), Fail> {
-    let (status, text) = tokens(rt.alloc(), b"\xd0\xb0\x0a\xff")?;
+    let (status, text) = answer(rt.alloc(), "tokens", b"\xd0\xb0\x0a\xff")?;
     assert!(rt; matches!(status, Status::NotUtf8 { place: 3 }));
     assert!(rt; text.is_empty());
     Ok(())
@@ -99,9 +81,11 @@ const LIMITS: [(usize, usize, &[u8], Status); 11] = [
 fn the_limits_are_exact_and_in_order(rt: HostRuntime) -> Result<(), Fail> {
     for (lines, width, rest, wanted) in LIMITS {
         let input = bars(rt.alloc(), lines, width, rest)?;
-        let (status, text) = tokens(rt.alloc(), input.as_slice())?;
-        assert_eq!(rt; status, wanted, "at {lines} lines of {width}");
-        assert!(rt; text.is_empty());
+        for command in ["tokens", "check"] {
+            let (status, text) = answer(rt.alloc(), command, input.as_slice())?;
+            assert_eq!(rt; status, wanted, "at {lines} lines of {width}");
+            assert!(rt; text.is_empty());
+        }
     }
     Ok(())
 }
@@ -111,7 +95,7 @@ fn the_first_long_line_is_named(rt: HostRuntime) -> Result<(), Fail> {
     let mut input = bars(rt.alloc(), 2, 1_024, b"")?;
     let more = bars(rt.alloc(), 2, 1_025, b"")?;
     input.extend_from_slice(more.as_slice())?;
-    let (status, _) = tokens(rt.alloc(), input.as_slice())?;
+    let (status, _) = answer(rt.alloc(), "tokens", input.as_slice())?;
     assert_eq!(rt; status, Status::TooLong(Excess::Characters { line: 3 }));
     Ok(())
 }
@@ -147,7 +131,7 @@ fn a_sink_that_fails_is_a_write_fault(rt: HostRuntime) -> Result<(), Fail> {
 fn other_words_are_refused_unread(rt: HostRuntime) -> Result<(), Fail> {
     let alloc = rt.alloc();
     for line in [
-        "", "check x", "tokens x", "-", "--help", "Tokens", "tokens ",
+        "", "check x", "tokens x", "-", "--help", "Tokens", "tokens ", "plain --steps 0", "plain --steps=5", "sample 01",
     ] {
         let words = words_of(alloc, line)?;
         let mut source = SureSource::new(Vec::from_slice(alloc, b"a")?);

@@ -1,0 +1,6 @@
+pub mod Along
+pub mod Shown
+pub mod Parts
+pub mod Seen
+pub mod Sounds
+pub mod Wholes

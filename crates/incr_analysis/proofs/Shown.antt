@@ -1,0 +1,41 @@
+-- What an analysed text keeps.
+use Rattle.std.proofs.Common.{◌≡◌, ℕ, List, [], ◌∷◌, map, refl, sym, ap, subst, ◌∙◌, arith}
+use Rattle.std.proofs.Common.{Bool, true, false, Option, Some, ◌<◌, length}
+use Rattle.std.specs.Borrow.{Bor}
+use Rattle.kumir_tree.specs.Part.{Head}
+use Rattle.kumir_tree.specs.Parts.{formal_of}
+use Rattle.kumir_tree.specs.declared.header.Header.{Header}
+use Rattle.kumir_tree.specs.declared.header.Param.{Param}
+use Rattle.type_rules.specs.Headers.{some_head_behind}
+use Rattle.kumir_tree.specs.Unit.{Known}
+use Rattle.kumir_tree.specs.Units.{units_of}
+use Rattle.kumir_tree.specs.declared.unit.UnitRead.{UnitRead}
+use Rattle.kumir_tree.specs.declared.unit.PlacedUnit.{PlacedUnit}
+use Rattle.margins.specs.declared.margin.Mark.{Mark}
+use Rattle.type_check.specs.Placed.{reads_of, units_in}
+use Rattle.type_check.specs.Margin.{program_faults, IsMarginOf, fault_of}
+use Rattle.type_check.proofs.First.{units_seen}
+use Rattle.incr_analysis.specs.Full.{IsAnalysis, Full, is_empty, takes_nothing}
+
+pub shown_full : (lines : List (List ℕ)) (units : List (ℕ × Known)) (margin : List Mark) → IsAnalysis lines units margin → Full lines margin
+shown_full lines units margin h = (units, h)
+
+pub same_units : (seen : List (ℕ × UnitRead)) (units : List PlacedUnit) → seen ≡ reads_of units → units_of units ≡ units_in seen
+same_units seen units e = sym (units_seen units) ∙ ap units_in (sym e)
+
+-- without a fault there is no mark
+pub no_marks : (marks : List Mark) → IsMarginOf [] marks → marks ≡ []
+no_marks [] margin = refl
+no_marks (m ∷ marks) margin = let found = margin.stands m (0, omega arith, refl) in absurd (omega (arith, found.1))
+
+pub without_marks : (lines : List (List ℕ)) (units : List (ℕ × Known)) (marks : List Mark) → IsAnalysis lines units marks → program_faults units ≡ [] → marks ≡ []
+without_marks lines units marks a e = no_marks marks (subst (λ fs. IsMarginOf fs marks) e a.marked)
+
+pub main_takes_nothing : (header : Bor Header) (first : Option Head) (empty : Bool) → some_head_behind (Some header) ≡ first → empty ≡ is_empty (map formal_of header.now.params) → empty ≡ takes_nothing first
+main_takes_nothing header first empty e same = same ∙ ap takes_nothing e
+
+pub empty_params : (params : List Param) (empty : Bool) → (empty ≡ true → params ≡ []) × (params ≡ [] → empty ≡ true) → empty ≡ is_empty (map formal_of params)
+empty_params [] true h = refl
+empty_params [] false h = h.1 refl
+empty_params (p ∷ params) true h = absurd (let e = h.0 refl in let none : ⊥ = cc in none)
+empty_params (p ∷ params) false h = refl

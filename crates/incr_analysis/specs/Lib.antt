@@ -1,0 +1,4 @@
+pub mod Full
+pub mod Stops
+pub mod Seen
+pub mod Answers
