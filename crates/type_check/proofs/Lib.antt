@@ -6,3 +6,4 @@ pub mod Asking
 pub mod Lines
 pub mod Marked
 pub mod First
+pub mod OneMargin

@@ -1,10 +1,17 @@
--- What the faults of an algorithm depend on.
+-- What the faults of an algorithm depend on, and how many margins there are.
 use Rattle.std.specs.Prelude.{◌≡◌, ℕ, List, Option}
 use Rattle.std.specs.List.{AllByRecursion}
+use Rattle.kumir_tree.specs.declared.unit.Fault.{Fault}
 use Rattle.kumir_tree.specs.Unit.{Algorithm}
+use Rattle.margins.specs.declared.margin.Mark.{Mark}
 use Rattle.type_rules.specs.Callees.{Called}
 use Rattle.type_check.specs.Checked.{asked, unit_faults}
+use Rattle.type_check.specs.Margin.{IsMarginOf}
 
 -- where two look-ups answer alike for each name that an algorithm asks for, they give it the same faults
 abbrev pub AsksForAll : Type 0
 AsksForAll = (a : Algorithm) (find other : List ℕ → Option Called) → AllByRecursion (λ x. find x ≡ other x) (asked a) → unit_faults find a ≡ unit_faults other a
+
+-- two margins of the same faults are equal
+abbrev pub HasOneMargin : Type 0
+HasOneMargin = (faults : List Fault) (a b : List Mark) → IsMarginOf faults a → IsMarginOf faults b → a ≡ b
