@@ -94,6 +94,6 @@ pub means : (p : Program) (x : List ℕ) → Means (rules.callee (callees_in p) 
 unfolding rules.callee stands_else
 means p x =
     let later : Means (stands_else p x) (means_else p x) =
-        over_robot (rules.known_robot p.performers x) _ _ (over_pen (rules.known_pen p.performers x) _ _ (among_heads x p.algorithms)) in
+    over_robot (rules.known_robot p.performers x) _ _ (over_pen (rules.known_pen p.performers x) _ _ (among_heads x p.algorithms)) in
     subst (λ o. Means (or_built_in (rules.built_in_named x) (stands_else p x)) (or_else (option_map BuiltInCall o) (means_else p x))) (sym (built_ins_same x))
     (over_built_in (rules.built_in_named x) (stands_else p x) (means_else p x) later)

@@ -223,9 +223,16 @@ module _ (p : Program) (gives : Option Kind) (find : List ℕ → Option Called)
         let v = both (is_kind kind.Whole (scalar_kind (variable names x))) (is_kind kind.Whole (kind_of (among names) from) && (is_kind kind.Whole (kind_of (among names) to) && some_whole (among names) stride)) w.1 in
         let u = both (is_kind kind.Whole (kind_of (among names) from)) (is_kind kind.Whole (kind_of (among names) to) && some_whole (among names) stride) v.1 in
         let z = both (is_kind kind.Whole (kind_of (among names) to)) (some_whole (among names) stride) u.1 in
-        let r = block_ok b t names more at reads w.2 in
-        ((local_at t names at x (scalar_there (variable names x) (kind_there kind.Whole (scalar_kind (variable names x)) v.0)),
-          kind_at t names at kind.Whole from u.0, kind_at t names at kind.Whole to z.0, stride_at t names at stride z.1, r.0), r.1)
+        let r = block_ok b t names more at reads w.2 in (
+          (
+            local_at t names at x (scalar_there (variable names x) (kind_there kind.Whole (scalar_kind (variable names x)) v.0)),
+            kind_at t names at kind.Whole from u.0,
+            kind_at t names at kind.Whole to z.0,
+            stride_at t names at stride z.1,
+            r.0,
+          ),
+          r.1,
+        )
     act_ok (Forever b) line t names more at reads f = block_ok b t names more at reads f
     act_ok (Until b close e) line t names more at reads f =
         let r = block_ok b t names ((close, Condition e) ∷ more) at reads (split names (block_pieces b) ((close, Condition e) ∷ []) more f) in
@@ -238,7 +245,7 @@ module _ (p : Program) (gives : Option Kind) (find : List ℕ → Option Called)
         ((kind_at t names at kind.Truth e w.1, r.0, q.0), further t.locals (block_names a) (block_names b) more q.1)
     act_ok (Select arms b) line t names more at reads f =
         let r = arms_ok arms t names (block_pieces b ++ more) b at reads.0 (split names (arms_pieces arms) (block_pieces b) more f)
-            (λ s new there g. (block_ok b s new more there reads.1 g).0) in
+        (λ s new there g. (block_ok b s new more there reads.1 g).0) in
         let q = block_ok b (site.behind t (arm_names arms)) r.1.0 more (at.0, at.1, r.1.1) reads.1 r.1.2 in
         (r.0, further t.locals (arm_names arms) (block_names b) more q.1)
     act_ok (Assert e) line t names more at reads f =
@@ -379,5 +386,5 @@ compilable (prelude ∷ units) sound f reads =
     let first = none_counted start prelude.1.head sound.0.0 in
     let all = all_grown find units sound.2 placed.1 in
     let found : headers_in (prelude ∷ units) ≡ callees_in p =
-        ap (λ d. all_counted d units) first ∙ all_count start units all (subst (λ d. all_faults d units ≡ []) first headers.1) in
+    ap (λ d. all_counted d units) first ∙ all_count start units all (subst (λ d. all_faults d units ≡ []) first headers.1) in
     all_compilable p find (λ x. subst (λ c. Means (rules.callee c x) (callee p x)) (sym found) (means p x)) units all reads placed.1

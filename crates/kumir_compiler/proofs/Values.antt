@@ -216,9 +216,11 @@ module _ (s : Among) (t : Site) (locals : (x : List ℕ) → local_kind t.locals
     arguments_ok no_trees params e = tt
     arguments_ok (x then es) [] e = tt
     arguments_ok (x then es) (p ∷ params) e =
-        let w = both (kinds.argument_fits p (record { value = kind_of s x; place = is_place s.names x; table = whole_table s.names x })) (arguments_fit params (arguments s es)) e in
-        (one_argument p.mode p.kind p.bounds (record { value = kind_of s x; place = is_place s.names x; table = whole_table s.names x }) (IsLocal t (name_of x)) (IsValue x t) (IsPlace x t) w.0
-         (λ h. table_ok x h) (λ h. value_ok x h) (λ r h. place_ok x r h), arguments_ok es params w.1)
+        let w = both (kinds.argument_fits p (record { value = kind_of s x; place = is_place s.names x; table = whole_table s.names x })) (arguments_fit params (arguments s es)) e in (
+          one_argument p.mode p.kind p.bounds (record { value = kind_of s x; place = is_place s.names x; table = whole_table s.names x }) (IsLocal t (name_of x)) (IsValue x t) (IsPlace x t) w.0
+              (λ h. table_ok x h) (λ h. value_ok x h) (λ r h. place_ok x r h),
+          arguments_ok es params w.1,
+        )
 
     place_ok : (e : Tree) → is_place s.names e ≡ true → IsThere (kind_of s e) → IsPlace e t
     place_ok (Number z) r h = absurd (let wrong : ⊥ = cc in wrong)

@@ -75,8 +75,8 @@ same_marks (m ∷ ms) (n ∷ ns) up rise there back =
     let e = same_first m n ms ns up rise there back in
     let too = subst (λ z. IsRising (z ∷ ns)) e rise in
     let rest = same_marks ms ns (rising_rest m ms up) (rising_rest m ns too)
-        (within_rest m ms ns up (subst (λ z. Within (m ∷ ms) (z ∷ ns)) e there))
-        (within_rest m ns ms too (subst (λ z. Within (z ∷ ns) (m ∷ ms)) e back)) in
+    (within_rest m ms ns up (subst (λ z. Within (m ∷ ms) (z ∷ ns)) e there))
+    (within_rest m ns ms too (subst (λ z. Within (z ∷ ns) (m ∷ ms)) e back)) in
     ap (λ l. m ∷ l) rest ∙ ap (λ z. z ∷ ns) (sym e)
 
 -- ---- margins
