@@ -1,13 +1,17 @@
--- What is promised of the code of a program.
-use Rattle.std.specs.Prelude.{ℕ, ◌≤◌, List}
+-- What is promised of the code of a program, and of which programs.
+use Rattle.std.specs.Prelude.{◌≡◌, ℕ, ◌≤◌, List, []}
+use Rattle.kumir_tree.specs.Unit.{Known}
+use Rattle.kumir_tree.specs.Sound.{IsSound}
 use Rattle.performer_kit.specs.declared.commands.Reply.{Reply}
 use Rattle.kumir_values.specs.declared.value.Value.{Value}
-use Rattle.kumir_values.specs.Callees.{Program}
+use Rattle.kumir_values.specs.Callees.{Program, program_of}
 use Rattle.kumir_values.specs.Samples.{adding, swapping}
 use Rattle.kumir_values.specs.Meaning.{run}
 use Rattle.stack_code.specs.CodeRuns.{CodeRun, Begins}
+use Rattle.type_check.specs.Margin.{program_faults}
 use Rattle.kumir_compiler.specs.Code.{code_of}
 use Rattle.kumir_compiler.specs.Compilable.{IsCompilable}
+use Rattle.kumir_compiler.specs.Inputs.{ReadsVariables}
 
 -- on all inputs and replies and within each number of steps the code runs as the program means, from the first algorithm on
 abbrev pub CodeMeansTheProgram : Type 0
@@ -22,3 +26,7 @@ MeaningOnlyGrows =
 -- the premise holds of the sample programs with calls in an expression, and with names and elements as `аргрез` arguments
 abbrev pub SamplesAreCompilable : Type 0
 SamplesAreCompilable = IsCompilable adding × IsCompilable swapping
+
+-- the premise holds of the program of all sound units without a fault, where inputs go to names and elements
+abbrev pub FaultlessIsCompilable : Type 0
+FaultlessIsCompilable = (units : List (ℕ × Known)) → IsSound units → program_faults units ≡ [] → ReadsVariables (program_of units) → IsCompilable (program_of units)

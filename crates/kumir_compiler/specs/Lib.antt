@@ -1,3 +1,4 @@
 pub mod Code
 pub mod Compilable
+pub mod Inputs
 pub mod Laws

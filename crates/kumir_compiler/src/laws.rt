@@ -1,6 +1,6 @@
 //! Laws of the code of a program, which no code needs to run.
 
-ghost use Rattle.kumir_compiler.specs.Laws.{CodeMeansTheProgram, MeaningOnlyGrows, SamplesAreCompilable};
+ghost use Rattle.kumir_compiler.specs.Laws.{CodeMeansTheProgram, FaultlessIsCompilable, MeaningOnlyGrows, SamplesAreCompilable};
 
 /// The code of a program runs as the program means, for each number of steps, on all inputs and all replies.
 pub fn code_means_the_program()
@@ -15,4 +15,9 @@ pub fn meaning_only_grows()
 /// The premise of both laws holds of sample programs.
 pub fn samples_are_compilable()
     ensures { SamplesAreCompilable }
+{}
+
+/// The premise holds of each program without a fault, where inputs go to names and elements.
+pub fn faultless_is_compilable()
+    ensures { FaultlessIsCompilable }
 {}

@@ -1,5 +1,5 @@
 -- Faults have at most one margin: two margins of them have the same marks, and stand in the same order.
-use Rattle.std.proofs.Common.{◌≡◌, ℕ, suc, ◌<◌, ◌≤◌, List, [], ◌∷◌, Contains, refl, sym, ap, subst, ◌∙◌, slice_index_or, arith}
+use Rattle.std.proofs.Common.{◌≡◌, ℕ, suc, ◌<◌, ◌≤◌, List, [], ◌∷◌, Contains, refl, sym, ap, subst, ◌∙◌, arith}
 use mathlib.Core.Logic.{◌⊎◌, inl, inr}
 use Rattle.std.proofs.lemmas.List.Elements.{Contains-append_right, Contains-append_cases, All-contains, All-from_recursion}
 use Rattle.kumir_tree.specs.declared.unit.Fault.{Fault}
@@ -75,8 +75,8 @@ same_marks (m ∷ ms) (n ∷ ns) up rise there back =
     let e = same_first m n ms ns up rise there back in
     let too = subst (λ z. IsRising (z ∷ ns)) e rise in
     let rest = same_marks ms ns (rising_rest m ms up) (rising_rest m ns too)
-        (within_rest m ms ns up (subst (λ z. Within (m ∷ ms) (z ∷ ns)) e there))
-        (within_rest m ns ms too (subst (λ z. Within (z ∷ ns) (m ∷ ms)) e back)) in
+    (within_rest m ms ns up (subst (λ z. Within (m ∷ ms) (z ∷ ns)) e there))
+    (within_rest m ns ms too (subst (λ z. Within (z ∷ ns) (m ∷ ms)) e back)) in
     ap (λ l. m ∷ l) rest ∙ ap (λ z. z ∷ ns) (sym e)
 
 -- ---- margins
