@@ -156,3 +156,29 @@ pub lower_than_minus : (x : ℕ) (z : ℤ) → x < 45 → mag z < 2 ^ 63 → All
 lower_than_minus x (pos n) below small = lower_than_digits x n (omega arith) (omega (arith, small))
 lower_than_minus x (negsuc n) below small =
     All-cons (λ c. eqb c x ≡ false) 45 (decimal (suc n)) (minus_lower x below) (lower_than_digits x (suc n) (omega arith) (omega (arith, small)))
+
+-- what a word is that is read as a number
+some_when : {A : Type 0} (b : Bool) (x y : A) → cond b (Some x) None ≡ Some y → (b ≡ true) × (x ≡ y)
+some_when true x y e = (refl, cc)
+some_when false x y e = absurd (let never : ⊥ = cc in never)
+
+pub number_only : (word : List ℕ) (n : ℕ) → number_of word ≡ Some n → (n < 2 ^ 32) × (word ≡ decimal n)
+unfolding number_of
+number_only word n is =
+    let read = some_when (nat_lt (digits_value 10 word) (2 ^ 32) && bytes_eq (decimal (digits_value 10 word)) word) (digits_value 10 word) n is in
+    let parts = and_parts _ _ read.0 in
+    (subst (λ m. m < 2 ^ 32) read.1 ((Decides-ltb (digits_value 10 word) (2 ^ 32)).0 parts.0), sym ((bytes_eq-Decides (decimal (digits_value 10 word)) word).0 parts.1) ∙ ap decimal read.1)
+
+pub whole_only : (word : List ℕ) (z : ℤ) → whole_of word ≡ Some z → (mag z < 2 ^ 31) × (word ≡ signed_decimal z)
+unfolding whole_of
+whole_only word z is =
+    let read = some_when (nat_lt (mag (signed_digits_value 10 word)) (2 ^ 31) && bytes_eq (signed_decimal (signed_digits_value 10 word)) word) (signed_digits_value 10 word) z is in
+    let parts = and_parts _ _ read.0 in
+    (subst (λ y. mag y < 2 ^ 31) read.1 ((Decides-ltb (mag (signed_digits_value 10 word)) (2 ^ 31)).0 parts.0), sym ((bytes_eq-Decides (signed_decimal (signed_digits_value 10 word)) word).0 parts.1) ∙ ap signed_decimal read.1)
+
+pub wide_only : (word : List ℕ) (z : ℤ) → wide_of word ≡ Some z → (mag z < 2 ^ 63) × (word ≡ signed_decimal z)
+unfolding wide_of
+wide_only word z is =
+    let read = some_when (nat_lt (mag (signed_digits_value 10 word)) (2 ^ 63) && bytes_eq (signed_decimal (signed_digits_value 10 word)) word) (signed_digits_value 10 word) z is in
+    let parts = and_parts _ _ read.0 in
+    (subst (λ y. mag y < 2 ^ 63) read.1 ((Decides-ltb (mag (signed_digits_value 10 word)) (2 ^ 63)).0 parts.0), sym ((bytes_eq-Decides (signed_decimal (signed_digits_value 10 word)) word).0 parts.1) ∙ ap signed_decimal read.1)

@@ -5,7 +5,7 @@ use Rattle.std.specs.Str.{is_utf8, IsUtf8}
 use Rattle.std.proofs.lemmas.Bool.Decides.{nat_tests}
 use Rattle.std.proofs.lemmas.Str.{IsUtf8-from_is_utf8, is_utf8-from_IsUtf8}
 use Rattle.script_lines.specs.Lines.{is_plain}
-use Rattle.script_lines.proofs.Numbers.{and_parts, and_true}
+use Rattle.decimals.proofs.Numbers.{and_parts, and_true}
 
 not_true : (b : Bool) → (b ≡ true → ⊥) → b ≡ false
 not_true true never = absurd (never refl)

@@ -1,10 +1,8 @@
 -- Request lines. docs/LANGUAGE.md, "Script".
-use Rattle.std.specs.Prelude.{ℕ, ℤ, ◌^◌, ◌==◌, ◌&&◌, ◌||◌, if◌then◌else◌, Bool, true, false, Option, Some, None, List, [], ◌∷◌, length, nat_lt, nat_le, slice_index, codes}
-use Rattle.std.specs.Int.Signed.{mag}
+use Rattle.std.specs.Prelude.{ℕ, ℤ, ◌==◌, ◌&&◌, ◌||◌, if◌then◌else◌, Bool, true, false, Option, Some, None, List, [], ◌∷◌, length, nat_le, slice_index, codes}
 use Rattle.std.specs.List.{slice_split}
-use Rattle.std.specs.Fmt.{decimal, signed_decimal}
 use Rattle.std.specs.Str.{bytes_eq}
-use Rattle.std.specs.Str.Parse.{digits_value, signed_digits_value}
+use Rattle.decimals.specs.Numbers.{number_of, whole_of}
 use Rattle.kumir_values.specs.declared.value.Value.{Value}
 use Rattle.kumir_values.specs.declared.value.Value.TheVariants.{Whole, Truth}
 use Rattle.kumir_values.specs.Values.{printed}
@@ -12,14 +10,6 @@ use Rattle.script_lines.specs.declared.request.Ask.TheVariants.{Run, Stop, Wait,
 use Rattle.script_lines.specs.declared.read.RequestLine.{RequestLine}
 use Rattle.script_lines.specs.declared.read.RequestLine.TheVariants.{Nothing, Alone, EditHead, FieldHead}
 use Rattle.script_lines.specs.Lines.{is_plain}
-
--- the number that the word is, in its one spelling, within 32 bits
-unfoldable pub number_of : List ℕ → Option ℕ
-number_of word = if nat_lt (digits_value 10 word) (2 ^ 32) && bytes_eq (decimal (digits_value 10 word)) word then Some (digits_value 10 word) else None
-
--- the number of the range of `цел` that the word is, in its one spelling
-unfoldable pub whole_of : List ℕ → Option ℤ
-whole_of word = if nat_lt (mag (signed_digits_value 10 word)) (2 ^ 31) && bytes_eq (signed_decimal (signed_digits_value 10 word)) word then Some (signed_digits_value 10 word) else None
 
 -- a number of at most nine digits
 abbrev pub short_number_of : List ℕ → Option ℕ

@@ -2,9 +2,10 @@
 ghost use Rattle.std.specs.Prelude.{◌≡◌, ◌==◌, ◌||◌, map, length, slice_index, IfOk, MatchOption, true, false};
 ghost use Rattle.std.specs.List.{slice_split};
 ghost use Rattle.script_lines.specs.Lines.{is_plain};
-ghost use Rattle.script_lines.specs.Words.{number_of, whole_of, short_number_of, value_of, values_of, edit_line, field_line, run_head, line_of_words, is_nothing, request_line};
+ghost use Rattle.script_lines.specs.Words.{short_number_of, value_of, values_of, edit_line, field_line, run_head, line_of_words, is_nothing, request_line};
 
 use crate::request::Ask;
+use decimals::{read_number, read_whole};
 use km_base::Memory;
 use km_base::limits::{ADDED_LINES, FIELD_LINES, SCRIPT_LINE_BYTES};
 use kumir_values::{Value, Values};
@@ -21,36 +22,6 @@ pub enum RequestLine {
     EditHead { from: u32, count: u32, added: u32 },
     /// A field, after which that many lines follow.
     FieldHead { lines: u32 },
-}
-
-/// The number that the word is, in its one spelling.
-fn read_number(alloc: Global, word: &str) -> Result<Option<u32>, Memory>
-    ensures { IfOk result (λ n. n ≡ number_of word.now) }
-{
-    let Ok(number) = word.parse::<u32>() else {
-        return Ok(None);
-    };
-    let printed = format!(in alloc; "{number}")?;
-    if printed.as_str() == word {
-        Ok(Some(number))
-    } else {
-        Ok(None)
-    }
-}
-
-/// The number of the range of `цел` that the word is, in its one spelling.
-fn read_whole(alloc: Global, word: &str) -> Result<Option<i32>, Memory>
-    ensures { IfOk result (λ z. z ≡ whole_of word.now) }
-{
-    let Ok(number) = word.parse::<i32>() else {
-        return Ok(None);
-    };
-    let printed = format!(in alloc; "{number}")?;
-    if printed.as_str() == word {
-        Ok(Some(number))
-    } else {
-        Ok(None)
-    }
 }
 
 fn read_short_number(alloc: Global, word: &str) -> Result<Option<u32>, Memory>

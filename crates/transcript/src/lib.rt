@@ -3,6 +3,7 @@
 
 mod answers;
 mod ends;
+mod entries;
 mod entry;
 mod escaped;
 mod line;
@@ -14,5 +15,6 @@ mod reports;
 mod tests;
 mod words;
 
+pub use entries::{TranscriptRefusal, one_print, read_entries};
 pub use entry::{Entries, Entry};
 pub use print::print_entry;

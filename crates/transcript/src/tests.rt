@@ -1,5 +1,5 @@
 use crate::line::read_line;
-use crate::{Entry, print_entry};
+use crate::{Entry, TranscriptRefusal, print_entry, read_entries};
 use km_base::Memory;
 use kumir_tree::Chars;
 use kumir_values::{EndKind, RunFault};
@@ -197,5 +197,49 @@ fn other_spellings_are_not_read(rt: HostRuntime) -> Result<(), Fail> {
     for line in lines {
         assert!(rt; !reads(rt.alloc(), line)?, "{line}");
     }
+    Ok(())
+}
+
+#[test]
+fn a_transcript_is_read_whole(rt: HostRuntime) -> Result<(), Fail> {
+    let text =
+        "margin 0\nfield ok\nedit 1\nmargin 1\nrun 1 1\nrobot 1 1 справа_свободно да\nrobot 1 2 закрасить done\nrobot 1 3 вправо done\nrobot 1 4 справа_свободно да\nrobot 1 5 закрасить done\nrobot 1 6 вправо done\nrobot 1 7 справа_свободно нет\nrobot 1 8 вправо wall\nend 1 wall 8\nbye\n";
+    assert!(rt; text.len() < 1_000);
+    assert_eq!(rt; read_entries(rt.alloc(), text.as_bytes())?.len(), 15);
+    Ok(())
+}
+
+/// The first line that no entry prints, and 0 where each line is one of an entry.
+fn first_bad(alloc: Global, bytes: &[u8]) -> Result<u32, Memory> {
+    if bytes.len() > 1_000 {
+        return Err(Memory);
+    }
+    match read_entries(alloc, bytes) {
+        Ok(_) => Ok(0),
+        Err(TranscriptRefusal::NotEntry { line }) => Ok(line),
+        Err(TranscriptRefusal::Memory) => Err(Memory),
+    }
+}
+
+#[test]
+fn the_first_line_of_no_entry_is_told(rt: HostRuntime) -> Result<(), Fail> {
+    let cases = [
+        ("", 0),
+        ("bye\n", 0),
+        ("bye", 1),
+        ("\n", 1),
+        ("margin 0\nbye", 2),
+        ("margin 0\n\nbye\n", 2),
+        ("margin 0\nedit 01\nbad\n", 2),
+        ("waited\r\n", 1),
+        ("edit 1\nrun 1  1\n", 2),
+        ("edit 1\nmargin 1 5:201 3:201\n", 2),
+        ("run 1 1\nrobot 1 1 вверх\n", 2),
+        ("run 1 1\nend 1 done\nbye\nbye\n", 0),
+    ];
+    for (text, line) in cases {
+        assert_eq!(rt; first_bad(rt.alloc(), text.as_bytes())?, line, "{text}");
+    }
+    assert_eq!(rt; first_bad(rt.alloc(), b"bye\n\xff\n")?, 2);
     Ok(())
 }
