@@ -1,0 +1,25 @@
+-- What a carried out instruction is to the run.
+use Rattle.std.specs.Prelude.{◌≡◌, List, [], ◌∷◌, Some}
+use Rattle.performer_kit.specs.declared.commands.Command.TheVariants.{Pen}
+use Rattle.kumir_values.specs.declared.value.Value.{Value}
+use Rattle.kumir_values.specs.Runs.{Printed, Sent, RunState, end_of}
+use Rattle.kumir_values.specs.Meaning.{usual}
+use Rattle.stack_code.specs.declared.unit.CodeUnit.{CodeUnit}
+use Rattle.stack_code.specs.CodeState.{State}
+use Rattle.stack_code.specs.Instructions.{Halt, step}
+use Rattle.kumir_machine.specs.declared.acted.Acted.{Acted}
+use Rattle.kumir_machine.specs.declared.acted.Acted.TheVariants as did
+use Rattle.kumir_machine.specs.Acting.{Acts}
+use Rattle.kumir_machine.specs.Progress.{Moment, at, Comes}
+
+-- the run comes to the next moment with the act that was answered, or it is over in that way
+abbrev pub Onward : List CodeUnit → Moment → Acted → Moment → Type 0
+Onward units a did.Moved b = Comes units a 0 [] [] b
+Onward units a (did.Printed text) b = Comes units a 0 [] (Printed text ∷ []) b
+Onward units a (did.Told command) b = Comes units a 0 [] (Sent (Pen command) ∷ []) b
+Onward units a (did.Over end) b = (state : RunState) × (end_of state ≡ Some end) × (step usual units a.state ≡ Halt state)
+
+abbrev pub CarriedComes : Type 0
+CarriedComes =
+    (units : List CodeUnit) (s new : State) (inputs : List Value) (acted : Acted)
+    → Acts (step usual units s) acted new → Onward units (at s inputs) acted (at new inputs)

@@ -1,0 +1,82 @@
+//! The operands of an algorithm that runs.
+ghost use Rattle.std.specs.Prelude.{◌≡◌, [], ◌∷◌, length, reverse, take, drop, OnOk, IfOk, MatchOption};
+ghost use Rattle.stack_code.specs.CodeState.{top, rest};
+
+use km_base::Memory;
+use kumir_values::Value;
+use std::alloc::{AllocError, Global};
+use std::marker::Model;
+
+/// The operands. Contracts see them from the top.
+#[derive(Drop)]
+pub struct Operands {
+    values: Vec<Value>,
+}
+
+impl Model for Operands {
+    ghost use Rattle.std.specs.Prelude.{List, reverse};
+    ghost use Rattle.kumir_values.specs.declared.value.Value.{Value as V};
+
+    ghost Value = { List V };
+
+    ghost view = { λ o. reverse o.values.items };
+}
+
+impl Operands {
+    /// None, with room for so many.
+    pub fn new(alloc: Global, room: usize) -> Result<Operands, Memory>
+        ensures { IfOk result (λ operands. operands ≡ []) }
+    {
+        Ok(Operands {
+            values: Vec::with_capacity(alloc, room)?,
+        })
+    }
+
+    /// How many there are.
+    pub fn count(&self) -> usize
+        ensures { result ≡ length self.now }
+    {
+        self.values.len()
+    }
+
+    /// Puts a value on top.
+    pub fn push(&mut self, value: Value) -> Result<(), AllocError>
+        ensures { OnOk result (self.new ≡ value ∷ self.old) }
+    {
+        self.values.push(value)?;
+        Ok(())
+    }
+
+    /// Takes the top away, if there is one.
+    pub fn take(&mut self) -> Option<Value>
+        ensures { MatchOption result ((self.old ≡ []) × (self.new ≡ [])) (λ value. self.old ≡ value ∷ self.new) }
+    {
+        self.values.pop()
+    }
+
+    /// Takes the top away; `нет` where there is none.
+    pub fn pop(&mut self) -> Value
+        ensures value { result ≡ top self.old }
+        ensures left { self.new ≡ rest self.old }
+    {
+        match self.take() {
+            Some(value) => value,
+            None => Value::Truth(false),
+        }
+    }
+
+    /// The operands on top, so many or all, in the order in which they were pushed.
+    pub fn last(&self, count: usize) -> &[Value]
+        ensures { result.now ≡ reverse (take count self.now) }
+    {
+        &self.values.as_slice()[self.values.len().saturating_sub(count)..]
+    }
+
+    /// Takes so many away from the top.
+    pub fn discard(&mut self, count: usize)
+        ensures { self.new ≡ drop count self.old }
+    {
+        let kept = self.values.as_slice().len().saturating_sub(count);
+        self.values.truncate(kept);
+    }
+}
