@@ -6,3 +6,5 @@ pub mod Limits
 pub mod Feeds
 pub mod Within
 pub mod Checks
+pub mod Carried
+pub mod ScriptRuns

@@ -5,3 +5,5 @@ pub mod Printed
 pub mod Checked
 pub mod Puts
 pub mod Ending
+pub mod Plain
+pub mod Scripts

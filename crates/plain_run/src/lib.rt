@@ -5,8 +5,11 @@ mod analysis;
 mod check;
 mod ending;
 mod lines;
+mod plain;
+mod script;
 mod text;
 mod tokens;
 
 pub use check::check_text;
+pub use script::run_plain;
 pub use tokens::tokens_text;

@@ -7,9 +7,10 @@ ghost use Rattle.workbench.specs.Words.{command_of};
 ghost use Rattle.plain_run.specs.Checked.{AnswersCheck};
 ghost use Rattle.plain_run.specs.Printed.{AnswersTokens};
 ghost use Rattle.plain_run.specs.Runs.{IsTextRun, IsUntouched, ports};
+ghost use Rattle.plain_run.specs.Scripts.{IsScriptRun};
 
 use km_ports::{Sink, Source, Status};
-use plain_run::{check_text, tokens_text};
+use plain_run::{check_text, run_plain, tokens_text};
 use std::alloc::Global;
 
 /// A command of the program (docs/PROGRAM.md, "Commands").
@@ -19,6 +20,8 @@ pub enum Command {
     Tokens,
     /// Prints the margin of a text.
     Check,
+    /// Carries out a script one request after the other.
+    Plain,
 }
 
 // The command that these words are, if they are one.
@@ -28,6 +31,7 @@ fn command_of(words: &[String]) -> Option<Command>
     match words {
         [word] if word.as_str() == "tokens" => Some(Command::Tokens),
         [word] if word.as_str() == "check" => Some(Command::Check),
+        [word] if word.as_str() == "plain" => Some(Command::Plain),
         _ => None,
     }
 }
@@ -48,12 +52,15 @@ pub fn workbench<I: Source, O: Sink>(
 
     ensures check { command_of (map (λ word. string_bytes word) words.now) ≡ Some Command.Check → IsTextRun AnswersCheck (ports (I.left input.old) (I.left input.new) (I.faults input.old) (I.faults input.new) (O.written output.old) (O.written output.new) (O.faults output.old) (O.faults output.new)) result }
 
+    ensures plain { command_of (map (λ word. string_bytes word) words.now) ≡ Some Command.Plain → IsScriptRun (ports (I.left input.old) (I.left input.new) (I.faults input.old) (I.faults input.new) (O.written output.old) (O.written output.new) (O.faults output.old) (O.faults output.new)) result }
+
     // Faults come from `check` alone.
     ensures unfaulted { result ≡ status.Faults → command_of (map (λ word. string_bytes word) words.now) ≡ Some Command.Check }
 {
     match command_of(words) {
         Some(Command::Tokens) => tokens_text(alloc, input, output),
         Some(Command::Check) => check_text(alloc, input, output),
+        Some(Command::Plain) => run_plain(alloc, input, output),
         None => Status::Words,
     }
 }

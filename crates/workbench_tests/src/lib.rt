@@ -4,6 +4,8 @@
 #[cfg(test)]
 mod check;
 #[cfg(test)]
+mod plain;
+#[cfg(test)]
 mod runs;
 #[cfg(test)]
 mod tokens;

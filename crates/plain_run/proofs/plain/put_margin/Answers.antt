@@ -1,0 +1,6 @@
+use Rattle.std.proofs.lemmas.Result.{on_ok_weaker}
+use Rattle.plain_run.proofs.Carried.{puts_margin}
+use Rattle.plain_run.proofs.plain.put_margin.Goals as goal
+
+pub returns-clause-whole : goal.returns-clause-whole
+returns-clause-whole g c = on_ok_weaker c.put_entry.result (λ put. puts_margin c.args.versions.now c.in-Ok.margin (g.O.Sink.written c.args.output.now) (g.O.Sink.written c.put_entry.new.output) c.in-Ok.ensures.margin put) c.put_entry.ensures.whole

@@ -1,0 +1,123 @@
+//! The command `plain`.
+
+ghost use Rattle.std.specs.Prelude.{◌≡◌, ◌≤◌, ◌<◌, ◌+◌, ◌++◌, ◌∷◌, ℕ, List, [], length, Some, Option, IfOk, IfSome, OnOk};
+ghost use Rattle.std.specs.Io.KnownBytes.{IsAtEnd};
+ghost use Rattle.km_ports.specs.Ports.{TakesFrom};
+ghost use Rattle.script_lines.specs.Requests.{whole, requests};
+ghost use Rattle.script_lines.specs.declared.request.Request.{Request};
+ghost use Rattle.plain_run.specs.Ending.{StopsPut};
+ghost use Rattle.plain_run.specs.Runs.{ports};
+ghost use Rattle.plain_run.specs.Plain.{Carries, IsPlain, PutsEntries};
+ghost use Rattle.plain_run.specs.Scripts.{IsScriptRun, StopsFor, HasCarried};
+
+use crate::plain::{put_answer, put_answers, put_entry, put_margin};
+use km_base::limits::SCRIPT_BYTES;
+use km_ports::{Excess, Sink, Source, Status};
+use script_lines::ScriptReader;
+use std::alloc::Global;
+use text_versions::Versions;
+use transcript::Entry;
+
+/// How many bytes one take asks for at most.
+const PIECE_BYTES: usize = 4096;
+
+// Takes bytes into the buffer once, and carries out the requests that they complete, where `room` bytes may still come.
+// Answers how many bytes came.
+fn carry_piece<I: Source, O: Sink>(
+    alloc: Global,
+    reader: &mut ScriptReader,
+    versions: &mut Versions,
+    room: usize,
+    buffer: &mut [u8],
+    input: &mut I,
+    output: &mut O,
+) -> Result<usize, Status>
+    requires fed { (fed : List ℕ) × (reader.now ≡ Some fed) × (length fed + room ≤ SCRIPT_BYTES) }
+    requires buffer { 0 < length buffer.now }
+    ensures carried { (fed : List ℕ) → reader.old ≡ Some fed → IfOk result (λ count. (piece : List ℕ) × (length piece ≡ count) × (reader.new ≡ Some (fed ++ piece)) × HasCarried (ports (I.left input.old) (I.left input.new) (I.faults input.old) (I.faults input.new) (O.written output.old) (O.written output.new) (O.faults output.old) (O.faults output.new)) fed piece versions.old versions.new) }
+    ensures within { IfOk result (λ count. count ≤ room) }
+    ensures end { IfOk result (λ count. count ≡ 0 → IsAtEnd (I.left input.old)) }
+    ensures cause { StopsFor room (ports (I.left input.old) (I.left input.new) (I.faults input.old) (I.faults input.new) (O.written output.old) (O.written output.new) (O.faults output.old) (O.faults output.new)) result }
+{
+    let Ok(count) = input.take(buffer) else {
+        return Err(Status::Read);
+    };
+    if count > room {
+        return Err(Status::TooLong(Excess::Bytes));
+    }
+    let Ok(requests) = reader.feed(&buffer[..count]) else {
+        return Err(Status::Memory);
+    };
+    put_answers(alloc, versions, requests, output)?;
+    Ok(count)
+}
+
+// Reads a script to its end and carries out the requests that its lines complete. Answers the reader, which knows what
+// was read.
+fn carry_pieces<I: Source, O: Sink>(
+    alloc: Global,
+    versions: &mut Versions,
+    input: &mut I,
+    output: &mut O,
+) -> Result<ScriptReader, Status>
+    ensures carried { IfOk result (λ reader. (fed : List ℕ) × (reader ≡ Some fed) × (length fed ≤ SCRIPT_BYTES) × HasCarried (ports (I.left input.old) (I.left input.new) (I.faults input.old) (I.faults input.new) (O.written output.old) (O.written output.new) (O.faults output.old) (O.faults output.new)) [] fed versions.old versions.new) }
+    ensures end { OnOk result (IsAtEnd (I.left input.new)) }
+    ensures cause { StopsFor SCRIPT_BYTES (ports (I.left input.old) (I.left input.new) (I.faults input.old) (I.faults input.new) (O.written output.old) (O.written output.new) (O.faults output.old) (O.faults output.new)) result }
+{
+    let mut reader = ScriptReader::new(alloc);
+    let mut buffer = [0; PIECE_BYTES];
+    let mut room = SCRIPT_BYTES;
+    loop {
+        let count = carry_piece(alloc, &mut reader, versions, room, &mut buffer, input, output)?;
+        if count == 0 {
+            return Ok(reader);
+        }
+        room -= count;
+    }
+}
+
+// Carries out the request that the end of the script completes, if there is one.
+fn carry_last<O: Sink>(
+    alloc: Global,
+    versions: &mut Versions,
+    reader: ScriptReader,
+    output: &mut O,
+) -> Result<(), Status>
+    requires { IfSome reader (λ fed. length fed < 4294967295) }
+    ensures whole { (fed : List ℕ) → reader ≡ Some fed → OnOk result (PutsEntries (λ entries. (last : List Request) × (requests fed ≡ whole fed ++ last) × Carries versions.old last entries versions.new) (O.written output.old) (O.written output.new)) }
+    ensures cause { StopsPut (O.faults output.old) (O.faults output.new) result }
+{
+    let Ok(last) = reader.finish() else {
+        return Err(Status::Memory);
+    };
+    match last {
+        Some(request) => put_answer(alloc, versions, request, output),
+        None => Ok(()),
+    }
+}
+
+// Carries out a script and puts its transcript.
+fn carry_script<I: Source, O: Sink>(alloc: Global, input: &mut I, output: &mut O) -> Result<(), Status>
+    ensures carried { OnOk result ((fed : List ℕ) × (length fed ≤ SCRIPT_BYTES) × TakesFrom (I.left input.old) (I.left input.new) fed × PutsEntries (IsPlain (requests fed)) (O.written output.old) (O.written output.new)) }
+    ensures end { OnOk result (IsAtEnd (I.left input.new)) }
+    ensures cause { StopsFor SCRIPT_BYTES (ports (I.left input.old) (I.left input.new) (I.faults input.old) (I.faults input.new) (O.written output.old) (O.written output.new) (O.faults output.old) (O.faults output.new)) result }
+{
+    let Ok(mut versions) = Versions::new(alloc) else {
+        return Err(Status::Memory);
+    };
+    put_margin(alloc, &versions, output)?;
+    let reader = carry_pieces(alloc, &mut versions, input, output)?;
+    carry_last(alloc, &mut versions, reader, output)?;
+    put_entry(alloc, Entry::Bye, output)
+}
+
+/// Reads a script and carries out its requests one after the other (docs/PROGRAM.md, "plain"). The transcript is written
+/// as it grows.
+pub fn run_plain<I: Source, O: Sink>(alloc: Global, input: &mut I, output: &mut O) -> Status
+    ensures run { IsScriptRun (ports (I.left input.old) (I.left input.new) (I.faults input.old) (I.faults input.new) (O.written output.old) (O.written output.new) (O.faults output.old) (O.faults output.new)) result }
+{
+    match carry_script(alloc, input, output) {
+        Ok(()) => Status::Fine,
+        Err(status) => status,
+    }
+}
