@@ -136,7 +136,14 @@ impl Analyser {
     {
         let lines = text.piece(self.alloc, 1, text.count())?;
         let spans = split_units(self.alloc, lines.as_slice())?;
-        match read_units(self.alloc, lines.as_slice(), spans.as_slice(), version, stop, reads)? {
+        match read_units(
+            self.alloc,
+            lines.as_slice(),
+            spans.as_slice(),
+            version,
+            stop,
+            reads,
+        )? {
             Reading::Skipped(newer) => Ok(Analysis::Skipped(newer)),
             Reading::Whole(units) => self.analysed(version, text, units, checks),
         }

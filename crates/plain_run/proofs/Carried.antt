@@ -65,10 +65,11 @@ puts_margin edits margin before now m p = (margin ∷ [], (margin, m, refl), put
 pub puts_edit : (edits after : List Edit) (e : Edit) (version : ℕ) (before between now : Option (List ℕ)) → answer_to TEXT_LIMITS edits e ≡ Ok version → after ≡ edits ++ e ∷ [] → PutsInto before between (printed_entry (entry.Edit version)) → PutsEntries (λ es. (m : Entry) × IsMarginOf after m × (es ≡ m ∷ [])) between now → PutsEntries (λ es. SaysEdit (answer_to TEXT_LIMITS edits e) edits e es after) before now
 puts_edit edits after e version before between now says accepted p q =
     let margin = q.1.0 in
-    let put : PutsInto between now (print (margin ∷ [])) = subst (λ es. PutsInto between now (print es)) q.1.2 q.2 in
-    (entry.Edit version ∷ margin ∷ [],
-     subst (λ r. SaysEdit r edits e (entry.Edit version ∷ margin ∷ []) after) (sym says) (margin, q.1.1, accepted, refl),
-     put_behind (entry.Edit version ∷ []) (margin ∷ []) before between now (puts_one (entry.Edit version) before between p) put)
+    let put : PutsInto between now (print (margin ∷ [])) = subst (λ es. PutsInto between now (print es)) q.1.2 q.2 in (
+      entry.Edit version ∷ margin ∷ [],
+      subst (λ r. SaysEdit r edits e (entry.Edit version ∷ margin ∷ []) after) (sym says) (margin, q.1.1, accepted, refl),
+      put_behind (entry.Edit version ∷ []) (margin ∷ []) before between now (puts_one (entry.Edit version) before between p) put,
+    )
 
 -- the answer to one that was refused
 refused_so : (edits after : List Edit) (e : Edit) (r : ApplyRefusal) (before now : Option (List ℕ)) → answer_to TEXT_LIMITS edits e ≡ Err r → after ≡ edits → PutsEntries (λ es. (edits : List Edit) → (e : Edit) → SaysEdit (Err r) edits e es edits) before now → PutsEntries (λ es. SaysEdit (answer_to TEXT_LIMITS edits e) edits e es after) before now

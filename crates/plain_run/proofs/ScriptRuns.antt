@@ -68,10 +68,11 @@ whole_plain margin fed more last b c w0 w1 w2 w3 w4 m pm em el pa pl pb =
     let none : whole [] ≡ [] = refl in
     let both = puts_carried more last [] b c w1 w2 w3 pa pl in
     let all : requests fed ≡ more ++ last = el ∙ ap (λ rs. rs ++ last) (em ∙ ap (λ rs. rs ++ more) none) in
-    let bye : PutsInto w3 w4 (print (entry.Bye ∷ [])) = subst (PutsInto w3 w4) (sym (append-nil (printed_entry entry.Bye))) pb in
-    (margin ∷ both.0 ++ entry.Bye ∷ [],
-     (margin, both.0, c, m, subst (λ rs. Carries [] rs both.0 c) (sym all) both.1, refl),
-     put_behind (margin ∷ []) (both.0 ++ entry.Bye ∷ []) w0 w1 w4 pm (put_behind both.0 (entry.Bye ∷ []) w1 w3 w4 both.2 bye))
+    let bye : PutsInto w3 w4 (print (entry.Bye ∷ [])) = subst (PutsInto w3 w4) (sym (append-nil (printed_entry entry.Bye))) pb in (
+      margin ∷ both.0 ++ entry.Bye ∷ [],
+      (margin, both.0, c, m, subst (λ rs. Carries [] rs both.0 c) (sym all) both.1, refl),
+      put_behind (margin ∷ []) (both.0 ++ entry.Bye ∷ []) w0 w1 w4 pm (put_behind both.0 (entry.Bye ∷ []) w1 w3 w4 both.2 bye),
+    )
 
 -- ---- the status
 
@@ -161,9 +162,9 @@ more_carried left0 left1 left2 s0 s1 s2 w0 w1 w2 k0 k1 k2 fed a b c reader count
 pub plain_put : (fed : List ℕ) (more : List Request) (a b c : List Edit) (w0 w1 w2 w3 w4 : Option (List ℕ)) → a ≡ [] → PutsEntries (λ es. (m : Entry) × IsMarginOf a m × (es ≡ m ∷ [])) w0 w1 → whole fed ≡ whole [] ++ more → PutsEntries (λ es. Carries a more es b) w1 w2 → PutsEntries (λ es. (l : List Request) × (requests fed ≡ whole fed ++ l) × Carries b l es c) w2 w3 → PutsInto w3 w4 (printed_entry entry.Bye) → PutsEntries (IsPlain (requests fed)) w0 w4
 plain_put fed more a b c w0 w1 w2 w3 w4 none m em more_put last_put bye =
     whole_plain m.1.0 fed more last_put.1.0 b c w0 w1 w2 w3 w4
-        (subst (λ edits. IsMarginOf edits m.1.0) none m.1.1)
-        (subst (λ es. PutsInto w0 w1 (print es)) m.1.2 m.2)
-        em last_put.1.1
-        (subst (λ edits. PutsEntries (λ es. Carries edits more es b) w1 w2) none more_put)
-        (last_put.0, last_put.1.2, last_put.2)
-        bye
+    (subst (λ edits. IsMarginOf edits m.1.0) none m.1.1)
+    (subst (λ es. PutsInto w0 w1 (print es)) m.1.2 m.2)
+    em last_put.1.1
+    (subst (λ edits. PutsEntries (λ es. Carries edits more es b) w1 w2) none more_put)
+    (last_put.0, last_put.1.2, last_put.2)
+    bye

@@ -80,7 +80,12 @@ fn put_refusal<O: Sink>(alloc: Global, refusal: ApplyRefusal, output: &mut O) ->
 }
 
 // Makes the next version by an edit, and puts the answer, and the margin of the version behind it.
-fn put_edit<O: Sink>(alloc: Global, versions: &mut Versions, edit: Edit, output: &mut O) -> Result<(), Status>
+fn put_edit<O: Sink>(
+    alloc: Global,
+    versions: &mut Versions,
+    edit: Edit,
+    output: &mut O,
+) -> Result<(), Status>
     ensures whole { OnOk result (PutsEntries (λ entries. SaysEdit (answer_to TEXT_LIMITS versions.old edit) versions.old edit entries versions.new) (O.written output.old) (O.written output.new)) }
     ensures cause { StopsPut (O.faults output.old) (O.faults output.new) result }
 {

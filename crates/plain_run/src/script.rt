@@ -68,7 +68,15 @@ fn carry_pieces<I: Source, O: Sink>(
     let mut buffer = [0; PIECE_BYTES];
     let mut room = SCRIPT_BYTES;
     loop {
-        let count = carry_piece(alloc, &mut reader, versions, room, &mut buffer, input, output)?;
+        let count = carry_piece(
+            alloc,
+            &mut reader,
+            versions,
+            room,
+            &mut buffer,
+            input,
+            output,
+        )?;
         if count == 0 {
             return Ok(reader);
         }
@@ -97,7 +105,11 @@ fn carry_last<O: Sink>(
 }
 
 // Carries out a script and puts its transcript.
-fn carry_script<I: Source, O: Sink>(alloc: Global, input: &mut I, output: &mut O) -> Result<(), Status>
+fn carry_script<I: Source, O: Sink>(
+    alloc: Global,
+    input: &mut I,
+    output: &mut O,
+) -> Result<(), Status>
     ensures carried { OnOk result ((fed : List ℕ) × (length fed ≤ SCRIPT_BYTES) × TakesFrom (I.left input.old) (I.left input.new) fed × PutsEntries (IsPlain (requests fed)) (O.written output.old) (O.written output.new)) }
     ensures end { OnOk result (IsAtEnd (I.left input.new)) }
     ensures cause { StopsFor SCRIPT_BYTES (ports (I.left input.old) (I.left input.new) (I.faults input.old) (I.faults input.new) (O.written output.old) (O.written output.new) (O.faults output.old) (O.faults output.new)) result }

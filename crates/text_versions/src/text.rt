@@ -110,7 +110,11 @@ impl Text {
     {
         let from = from as usize - 1;
         let mut lines = Lines::new(alloc);
-        copy_lines(alloc, &mut lines, &self.lines.as_slice()[from..from + count as usize])?;
+        copy_lines(
+            alloc,
+            &mut lines,
+            &self.lines.as_slice()[from..from + count as usize],
+        )?;
         Ok(lines)
     }
 }

@@ -8,24 +8,24 @@ use workbench::workbench;
 const MARGINS: [(&str, &str); 20] = [
     ("", ""),
     ("алг\nнач\nвещ x\nx := 1.5\nкон", "3 104\n4 104\n"),
-    (
-        "алг\nнач\nx := (1 + 2\nвывод x, \"б\", нс\nкон",
-        "3 201\n",
-    ),
+    ("алг\nнач\nx := (1 + 2\nвывод x, \"б\", нс\nкон", "3 201\n"),
     ("алг\nнач\nутв да\nкон", ""),
     ("алг\nнач\nнц 3 раз", "3 302\n"),
     ("алг\nнач\nнц 3 раз\nкон", "4 301\n"),
     ("алг\nнач\nвсе\nкон", "3 301\n"),
     ("алг", "1 302\n"),
     ("x := 1", "1 301\n"),
+    ("алг\nнач\nесли 1 = 1\nвывод 1\nвсе\nкон", "4 301\n"),
     (
-        "алг\nнач\nесли 1 = 1\nвывод 1\nвсе\nкон",
-        "4 301\n",
+        "алг\nнач\nцел x\nнц пока x > 1\nкц при x = 1\nкон",
+        "5 301\n",
     ),
-    ("алг\nнач\nцел x\nнц пока x > 1\nкц при x = 1\nкон", "5 301\n"),
     ("алг\nнач\nесли да то иначе\nиначе\nвсе\nкон", "4 301\n"),
     ("алг\nнач\nвыбор при да: при нет: иначе все\nкон", ""),
-    ("алг\nнач\nвыбор\nпри да: иначе\nпри нет: все\nкон", "5 301\n"),
+    (
+        "алг\nнач\nвыбор\nпри да: иначе\nпри нет: все\nкон",
+        "5 301\n",
+    ),
     ("алг\nнач\nнц\nкц при да\nкон", ""),
     ("алг\nалг\nнач\nкон", "1 302\n2 405\n"),
     ("алг а\nнач\nкон\nкон", "4 301\n"),
@@ -112,11 +112,7 @@ fn a_program_is_typed(rt: HostRuntime) -> Result<(), Fail> {
 }
 
 // An algorithm with these parts, each so often, around its middle.
-fn nested(
-    alloc: Global,
-    parts: (&str, &str, &str),
-    count: usize,
-) -> Result<String, AllocError> {
+fn nested(alloc: Global, parts: (&str, &str, &str), count: usize) -> Result<String, AllocError> {
     let (open, middle, close) = parts;
     let mut text = String::from_str(alloc, "алг\nнач\n")?;
     repeated(&mut text, open, count)?;

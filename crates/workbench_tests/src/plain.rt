@@ -20,12 +20,27 @@ const SCRIPTS: [(&str, &str); 14] = [
         "edit 1 0\nrun x\nhello\n\n# note\nstop\n",
         "margin 0\nbad 1\nbad 2\nbad 3\nstop idle\nbye\n",
     ),
-    ("run\nfield 1\n3 1 4 1\nwait", "margin 0\nbad 1\nbad 2\nwaited\nbye\n"),
-    ("edit 0 0 0\nedit 2 0 0\nedit 1 1 0\n", "margin 0\nedit refused range\nedit refused range\nedit refused range\nbye\n"),
-    ("edit 1 0 0\nedit 1 0 0\n", "margin 0\nedit 1\nmargin 1\nedit 2\nmargin 2\nbye\n"),
+    (
+        "run\nfield 1\n3 1 4 1\nwait",
+        "margin 0\nbad 1\nbad 2\nwaited\nbye\n",
+    ),
+    (
+        "edit 0 0 0\nedit 2 0 0\nedit 1 1 0\n",
+        "margin 0\nedit refused range\nedit refused range\nedit refused range\nbye\n",
+    ),
+    (
+        "edit 1 0 0\nedit 1 0 0\n",
+        "margin 0\nedit 1\nmargin 1\nedit 2\nmargin 2\nbye\n",
+    ),
     ("edit 1 0 8193\n", "margin 0\nbad 1\nbye\n"),
-    ("edit 1 0 1\r\nалг a\r\nwait\r\n", "margin 0\nedit 1\nmargin 1 1:302\nwaited\nbye\n"),
-    (" wait\nwait \nWAIT\nstop  \n", "margin 0\nbad 1\nbad 2\nbad 3\nbad 4\nbye\n"),
+    (
+        "edit 1 0 1\r\nалг a\r\nwait\r\n",
+        "margin 0\nedit 1\nmargin 1 1:302\nwaited\nbye\n",
+    ),
+    (
+        " wait\nwait \nWAIT\nstop  \n",
+        "margin 0\nbad 1\nbad 2\nbad 3\nbad 4\nbye\n",
+    ),
     (
         "edit 1 0 3\nалг\nнач\nкон\nedit 2 1 0\nedit 1 2 1\nx := 1\n",
         "margin 0\nedit 1\nmargin 1\nedit 2\nmargin 2 2:301\nedit 3\nmargin 3 1:301\nbye\n",
@@ -86,7 +101,7 @@ fn a_script_that_is_not_read_is_a_read_fault(rt: HostRuntime) -> Result<(), Fail
     let mut sink = VecSink::new(alloc);
     let status = workbench(alloc, words.as_slice(), &mut source, &mut sink);
     assert_eq!(rt; status.number(), 3);
-    assert_eq!(rt; sink.written(), b"margin 0\n");
+    assert_eq!(rt; sink.written(), "margin 0\n".as_bytes());
     Ok(())
 }
 
@@ -98,6 +113,6 @@ fn a_transcript_that_is_not_written_is_a_write_fault(rt: HostRuntime) -> Result<
     let mut sink = MemSink::new(alloc, 4, vec![in alloc; 2]?);
     let status = workbench(alloc, words.as_slice(), &mut source, &mut sink);
     assert_eq!(rt; status.number(), 4);
-    assert_eq!(rt; sink.written(), b"marg");
+    assert_eq!(rt; sink.written(), "marg".as_bytes());
     Ok(())
 }

@@ -131,7 +131,16 @@ fn a_sink_that_fails_is_a_write_fault(rt: HostRuntime) -> Result<(), Fail> {
 fn other_words_are_refused_unread(rt: HostRuntime) -> Result<(), Fail> {
     let alloc = rt.alloc();
     for line in [
-        "", "check x", "tokens x", "-", "--help", "Tokens", "tokens ", "plain --steps 0", "plain --steps=5", "sample 01",
+        "",
+        "check x",
+        "tokens x",
+        "-",
+        "--help",
+        "Tokens",
+        "tokens ",
+        "plain --steps 0",
+        "plain --steps=5",
+        "sample 01",
     ] {
         let words = words_of(alloc, line)?;
         let mut source = SureSource::new(Vec::from_slice(alloc, b"a")?);

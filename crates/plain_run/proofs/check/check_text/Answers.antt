@@ -12,13 +12,13 @@ returns-in-Ok-answer_of g c =
     let same : c.deref.result.now ≡ c.in-Ok.bytes.items = c.deref.ensures.value in
     record {
       run = subst (IsTextRun AnswersCheck p) (sym c.ended.ensures) (checked_run _ p c.deref.result.now (map (λ line. chars line.now) c.as_slice.result.now) c.in-Ok-answer_of.answer.status _ c.as_bytes.result.now c.put_all.result
-        (subst (IsWhole p.left_before p.left) (sym same) c.in-Ok.ensures.whole)
-        c.in-Ok.ensures.end
-        c.in-Ok-text_lines.ensures.text
-        (ap (λ l. map (λ line. chars line.now) l) c.as_slice.ensures.value ∙ c.in-Ok-text_lines.ensures.lines)
-        c.in-Ok-answer_of.ensures
-        c.as_bytes.ensures.value
-        c.put_all.ensures.bytes
-        c.put_all.ensures.front
-        c.put_all.ensures.cause);
+          (subst (IsWhole p.left_before p.left) (sym same) c.in-Ok.ensures.whole)
+          c.in-Ok.ensures.end
+          c.in-Ok-text_lines.ensures.text
+          (ap (λ l. map (λ line. chars line.now) l) c.as_slice.ensures.value ∙ c.in-Ok-text_lines.ensures.lines)
+          c.in-Ok-answer_of.ensures
+          c.as_bytes.ensures.value
+          c.put_all.ensures.bytes
+          c.put_all.ensures.front
+          c.put_all.ensures.cause);
     }
