@@ -6,14 +6,14 @@ use Rattle.kumir_tree.specs.declared.kind.Kind.{Kind}
 use Rattle.kumir_tree.specs.declared.kind.Mode.{Mode}
 use Rattle.kumir_tree.specs.declared.token.Token.{Token}
 use Rattle.kumir_tree.specs.Tree.{Tree}
-use Rattle.kumir_tree.specs.Part.{Limits, Formal}
+use Rattle.kumir_tree.specs.Part.{Limits, Place, Formal}
 use Rattle.kumir_tree.specs.Piece as form
 use Rattle.kumir_tree.specs.Piece.{Piece}
 use Rattle.kumir_tree.specs.Program.{Stmt, Act, Block}
 use Rattle.kumir_tree.specs.Blocks.{Arm, block_listed, arms_listed}
-use Rattle.kumir_tree.specs.Sound.{HasDimensions, SomeBounds, DeclaresHold, ActHolds, StmtHolds, BlockHolds, ArmsHold, ClaimHolds, AlgorithmHolds}
+use Rattle.kumir_tree.specs.Sound.{IsInputTarget, HasDimensions, SomeBounds, DeclaresHold, ActHolds, StmtHolds, BlockHolds, ArmsHold, ClaimHolds, AlgorithmHolds}
 use Rattle.kumir_tree.specs.Unit.{Algorithm}
-use Rattle.expr_forms.specs.Forms.{IsForm, header, tables, IsBounds, bounds, IsTable, table_name, Perhaps, missing, there, IsParam, param, IsParams, last_param, next_param, IsSignature, no_brackets, no_params, params}
+use Rattle.expr_forms.specs.Forms.{IsForm, header, tables, input, IsTarget, scalar_target, element_target, IsBounds, bounds, IsTable, table_name, Perhaps, missing, there, IsParam, param, IsParams, last_param, next_param, IsSignature, no_brackets, no_params, params}
 use Rattle.expr_forms.specs.Lists.{Listed, last, next}
 use Rattle.algo_parser.specs.Grammar as g
 use Rattle.algo_parser.specs.Grammar.{Placed, statement_of, loop_of, IsSeq, none, statement, block, IsBlock, loop, until, choose, choose_otherwise, select, select_otherwise, IsCases, first_case, next_case, IsGiven, IsWanted, IsUnit, unit}
@@ -23,6 +23,7 @@ use Rattle.algo_parser.proofs.Blocks.{none_is}
 
 abbrev pub FormHolds : Piece → Type 0
 FormHolds (form.Declare d) = DeclaresHold HasDimensions d
+FormHolds (form.Input ts) = AllByRecursion IsInputTarget ts
 FormHolds (form.Header h) = AllByRecursion (λ p. SomeBounds HasDimensions p.bounds) h.params × (h.line ≡ 0)
 FormHolds other = ⊤
 
@@ -52,9 +53,18 @@ tables_hold : {ts : List Token} {xs : List (List ℕ × Limits)} → Listed IsTa
 tables_hold (last t) = (table_holds t, tt)
 tables_hold (next t ts) = (table_holds t, tables_hold ts)
 
+target_holds : {ts : List Token} {p : Place} → IsTarget ts p → IsInputTarget p
+target_holds scalar_target = tt
+target_holds (element_target xs) = tt
+
+targets_hold : {ts : List Token} {ps : List Place} → Listed IsTarget ts ps → AllByRecursion IsInputTarget ps
+targets_hold (last p) = (target_holds p, tt)
+targets_hold (next p ps) = (target_holds p, targets_hold ps)
+
 pub form_holds : {ts : List Token} {f : Piece} → IsForm ts f → FormHolds f
 form_holds (header g n s) = (signature_holds s, refl)
 form_holds (tables k l) = tables_hold l
+form_holds (input l) = targets_hold l
 form_holds other = tt
 
 -- ---- statements
@@ -78,7 +88,7 @@ module _ (L : ℕ → Type 0) where
   act_holds (form.Assign t x) act e h = act_is e tt
   act_holds (form.Invoke x es) act e h = act_is e tt
   act_holds (form.Assert x) act e h = act_is e tt
-  act_holds (form.Input ts) act e h = act_is e tt
+  act_holds (form.Input ts) act e h = act_is e h
   act_holds (form.Output xs) act e h = act_is e tt
   act_holds form.Leave act e h = act_is e tt
   act_holds form.Quit act e h = act_is e tt

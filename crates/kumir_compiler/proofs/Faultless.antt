@@ -1,5 +1,5 @@
 -- The program of units without a fault can be compiled.
-use Rattle.std.proofs.Common.{◌≡◌, ℕ, ◌+◌, Bool, true, false, ◌&&◌, ◌||◌, cond, List, [], ◌∷◌, ◌++◌, map, Option, Some, None, is_some, refl, sym, ap, subst, ◌∙◌, append_assoc}
+use Rattle.std.proofs.Common.{◌≡◌, ℕ, ◌+◌, ◌≤◌, Bool, true, false, ◌&&◌, ◌||◌, cond, List, [], ◌∷◌, ◌++◌, map, Option, Some, None, is_some, refl, sym, ap, subst, ◌∙◌, append_assoc}
 use Rattle.std.proofs.lemmas.List.{append-nil}
 use Rattle.std.specs.Prelude.{option_map}
 use Rattle.std.specs.List.{AllByRecursion}
@@ -10,7 +10,7 @@ use Rattle.kumir_tree.specs.Part.{Limits, Place, ToAnswer, ToScalar, ToElement, 
 use Rattle.kumir_tree.specs.Program as tree
 use Rattle.kumir_tree.specs.Program.{Stands, Declare, Assign, Invoke, Times, While, Count, Forever, Until, Choose, Select, Assert, Input, Output, Leave, Quit, Block, done, ◌next◌, Arms, no_arms, arm}
 use Rattle.kumir_tree.specs.Unit.{Algorithm, Ending, Grown, Prelude, Faulty, Known}
-use Rattle.kumir_tree.specs.Sound.{IsSound, IsUnitRead, IsPlaced, EndsUnit}
+use Rattle.kumir_tree.specs.Sound.{IsInputTarget, ActHolds, BlockHolds, ArmsHold, EndingHolds, HasDimensions, IsSound, IsUnitRead, IsPlaced, EndsUnit}
 use Rattle.kumir_values.specs.Callees as run_names
 use Rattle.kumir_values.specs.Callees.{Placed, Program, grown, program_of, callee, Locals, local_kind, params_of, act_names, stmt_names, block_names, arm_names}
 use Rattle.type_rules.specs.Callees as rules
@@ -25,7 +25,6 @@ use Rattle.type_check.specs.Margin.{on_line, own_faults, placed_faults, all_plac
 use Rattle.kumir_compiler.specs.Code as site
 use Rattle.kumir_compiler.specs.Code.{Site, header_site}
 use Rattle.kumir_compiler.specs.Compilable.{IsThere, IsLocal, IsValue, AreLimits, IsTarget, AreTables, IsDeclared, TakeInputs, AreShown, IsStride, CanAct, CanRun, CanChoose, IsSomeClaim, AreBounds, AreFormals, IsCompilableAlgorithm, AreCompilable, IsCompilable}
-use Rattle.kumir_compiler.specs.Inputs.{IsInputTarget, ActReads, BlockReads, ArmsRead, ReadsVariables}
 use Rattle.kumir_compiler.proofs.Callables.{Means, head_of, callees_in, means}
 use Rattle.kumir_compiler.proofs.Values.{both, is_there, kind_there, same_there, element_there, plain, local_is, local_there, answer_there, value_ok, values_ok, invoked_ok}
 
@@ -85,7 +84,7 @@ scalar_there : (o : Option Variable) → IsThere (scalar_kind o) → IsThere o
 scalar_there None h = absurd h
 scalar_there (Some v) h = tt
 
-module _ (p : Program) (gives : Option Kind) (find : List ℕ → Option Called) (calls : (x : List ℕ) → Means (find x) (callee p x)) where
+module _ (L : ℕ → Type 0) (B : Limits → Type 0) (p : Program) (gives : Option Kind) (find : List ℕ → Option Called) (calls : (x : List ℕ) → Means (find x) (callee p x)) where
   abbrev among : Names → Among
   among names = record { find = find; gives = gives; names = names }
 
@@ -150,11 +149,11 @@ module _ (p : Program) (gives : Option Kind) (find : List ℕ → Option Called)
     variable_at (ToElement x es) reads h = h.0
 
     inputs_at : (xs : List Place) → AllByRecursion IsInputTarget xs → places_fit (among names) xs ≡ true → TakeInputs xs t
-    inputs_at [] reads e = tt
-    inputs_at (x ∷ xs) reads e =
+    inputs_at [] holds e = tt
+    inputs_at (x ∷ xs) holds e =
         let w = both (is_some (checked.place_kind (among names) x)) (places_fit (among names) xs) e in
         let target = target_at x (is_there (checked.place_kind (among names) x) w.0) in
-        (target, variable_at x reads.0 target, inputs_at xs reads.1 w.1)
+        (target, variable_at x holds.0 target, inputs_at xs holds.1 w.1)
 
     shown_at : (xs : List Shown) → all_shown_fit (among names) xs ≡ true → AreShown xs t
     shown_at [] e = tt
@@ -199,31 +198,31 @@ module _ (p : Program) (gives : Option Kind) (find : List ℕ → Option Called)
   -- ---- statements
 
   mutual
-    act_ok : (a : tree.Act) (line : ℕ) (t : Site) (names : Names) (more : Pieces) → At t names → ActReads a → faults_from find gives names (act_pieces line a ++ more) ≡ [] → CanAct a t × Goes t.locals (act_names a) more
-    act_ok (Declare d) line t names more at reads f =
+    act_ok : (a : tree.Act) (line : ℕ) (t : Site) (names : Names) (more : Pieces) → At t names → ActHolds L B a → faults_from find gives names (act_pieces line a ++ more) ≡ [] → CanAct a t × Goes t.locals (act_names a) more
+    act_ok (Declare d) line t names more at holds f =
         let w = one_piece names line (Declaring d) more f in
         (declared_at t names at d w.1, (behind names (Declaring d), declared t names d at w.0, w.2))
-    act_ok (Assign x e) line t names more at reads f =
+    act_ok (Assign x e) line t names more at holds f =
         let w = one_piece names line (Assigning x e) more f in
         let v = same_there (checked.place_kind (among names) x) (kind_of (among names) e) w.1 in
         ((target_at t names at x v.0, value_at t names at e v.1), no_more t.locals names more at.2 w.2)
-    act_ok (Invoke x es) line t names more at reads f =
+    act_ok (Invoke x es) line t names more at holds f =
         let w = one_piece names line (Calling x es) more f in
         (invoked_ok (among names) t (locals_at t names at) at.1 (calls_at t names at) x es w.1, no_more t.locals names more at.2 w.2)
-    act_ok (Times e b) line t names more at reads f =
+    act_ok (Times e b) line t names more at holds f =
         let w = one_piece names line (Repeating e) (block_pieces b ++ more) f in
-        let r = block_ok b t names more at reads w.2 in
+        let r = block_ok b t names more at holds w.2 in
         ((kind_at t names at kind.Whole e w.1, r.0), r.1)
-    act_ok (While e b) line t names more at reads f =
+    act_ok (While e b) line t names more at holds f =
         let w = one_piece names line (Condition e) (block_pieces b ++ more) f in
-        let r = block_ok b t names more at reads w.2 in
+        let r = block_ok b t names more at holds w.2 in
         ((kind_at t names at kind.Truth e w.1, r.0), r.1)
-    act_ok (Count x from to stride b) line t names more at reads f =
+    act_ok (Count x from to stride b) line t names more at holds f =
         let w = one_piece names line (Counting x from to stride) (block_pieces b ++ more) f in
         let v = both (is_kind kind.Whole (scalar_kind (variable names x))) (is_kind kind.Whole (kind_of (among names) from) && (is_kind kind.Whole (kind_of (among names) to) && some_whole (among names) stride)) w.1 in
         let u = both (is_kind kind.Whole (kind_of (among names) from)) (is_kind kind.Whole (kind_of (among names) to) && some_whole (among names) stride) v.1 in
         let z = both (is_kind kind.Whole (kind_of (among names) to)) (some_whole (among names) stride) u.1 in
-        let r = block_ok b t names more at reads w.2 in (
+        let r = block_ok b t names more at holds w.2 in (
           (
             local_at t names at x (scalar_there (variable names x) (kind_there kind.Whole (scalar_kind (variable names x)) v.0)),
             kind_at t names at kind.Whole from u.0,
@@ -233,47 +232,47 @@ module _ (p : Program) (gives : Option Kind) (find : List ℕ → Option Called)
           ),
           r.1,
         )
-    act_ok (Forever b) line t names more at reads f = block_ok b t names more at reads f
-    act_ok (Until b close e) line t names more at reads f =
-        let r = block_ok b t names ((close, Condition e) ∷ more) at reads (split names (block_pieces b) ((close, Condition e) ∷ []) more f) in
+    act_ok (Forever b) line t names more at holds f = block_ok b t names more at holds f
+    act_ok (Until b close e) line t names more at holds f =
+        let r = block_ok b t names ((close, Condition e) ∷ more) at holds.0 (split names (block_pieces b) ((close, Condition e) ∷ []) more f) in
         let w = one_piece r.1.0 close (Condition e) more r.1.2 in
         ((r.0, kind_at (site.on_line (site.behind t (block_names b)) close) r.1.0 (at.0, at.1, r.1.1) kind.Truth e w.1), (r.1.0, r.1.1, w.2))
-    act_ok (Choose e a b) line t names more at reads f =
+    act_ok (Choose e a b) line t names more at holds f =
         let w = one_piece names line (Condition e) ((block_pieces a ++ block_pieces b) ++ more) f in
-        let r = block_ok a t names (block_pieces b ++ more) at reads.0 (split names (block_pieces a) (block_pieces b) more w.2) in
-        let q = block_ok b (site.behind t (block_names a)) r.1.0 more (at.0, at.1, r.1.1) reads.1 r.1.2 in
+        let r = block_ok a t names (block_pieces b ++ more) at holds.0 (split names (block_pieces a) (block_pieces b) more w.2) in
+        let q = block_ok b (site.behind t (block_names a)) r.1.0 more (at.0, at.1, r.1.1) holds.1 r.1.2 in
         ((kind_at t names at kind.Truth e w.1, r.0, q.0), further t.locals (block_names a) (block_names b) more q.1)
-    act_ok (Select arms b) line t names more at reads f =
-        let r = arms_ok arms t names (block_pieces b ++ more) b at reads.0 (split names (arms_pieces arms) (block_pieces b) more f)
-        (λ s new there g. (block_ok b s new more there reads.1 g).0) in
-        let q = block_ok b (site.behind t (arm_names arms)) r.1.0 more (at.0, at.1, r.1.1) reads.1 r.1.2 in
+    act_ok (Select arms b) line t names more at holds f =
+        let r = arms_ok arms t names (block_pieces b ++ more) b at holds.0 (split names (arms_pieces arms) (block_pieces b) more f)
+        (λ s new there g. (block_ok b s new more there holds.1 g).0) in
+        let q = block_ok b (site.behind t (arm_names arms)) r.1.0 more (at.0, at.1, r.1.1) holds.1 r.1.2 in
         (r.0, further t.locals (arm_names arms) (block_names b) more q.1)
-    act_ok (Assert e) line t names more at reads f =
+    act_ok (Assert e) line t names more at holds f =
         let w = one_piece names line (Condition e) more f in
         (kind_at t names at kind.Truth e w.1, no_more t.locals names more at.2 w.2)
-    act_ok (Input xs) line t names more at reads f =
+    act_ok (Input xs) line t names more at holds f =
         let w = one_piece names line (Reading xs) more f in
-        (inputs_at t names at xs reads w.1, no_more t.locals names more at.2 w.2)
-    act_ok (Output xs) line t names more at reads f =
+        (inputs_at t names at xs holds w.1, no_more t.locals names more at.2 w.2)
+    act_ok (Output xs) line t names more at holds f =
         let w = one_piece names line (Printing xs) more f in
         (shown_at t names at xs w.1, no_more t.locals names more at.2 w.2)
-    act_ok Leave line t names more at reads f = (tt, no_more t.locals names more at.2 f)
-    act_ok Quit line t names more at reads f = (tt, no_more t.locals names more at.2 f)
+    act_ok Leave line t names more at holds f = (tt, no_more t.locals names more at.2 f)
+    act_ok Quit line t names more at holds f = (tt, no_more t.locals names more at.2 f)
 
-    block_ok : (b : Block) (t : Site) (names : Names) (more : Pieces) → At t names → BlockReads b → faults_from find gives names (block_pieces b ++ more) ≡ [] → CanRun b t × Goes t.locals (block_names b) more
-    block_ok done t names more at reads f = (tt, no_more t.locals names more at.2 f)
-    block_ok (Stands line a next b) t names more at reads f =
-        let r = act_ok a line (site.on_line t line) names (block_pieces b ++ more) at reads.0 (split names (act_pieces line a) (block_pieces b) more f) in
-        let q = block_ok b (site.behind t (stmt_names (Stands line a))) r.1.0 more (at.0, at.1, r.1.1) reads.1 r.1.2 in
+    block_ok : (b : Block) (t : Site) (names : Names) (more : Pieces) → At t names → BlockHolds L B b → faults_from find gives names (block_pieces b ++ more) ≡ [] → CanRun b t × Goes t.locals (block_names b) more
+    block_ok done t names more at holds f = (tt, no_more t.locals names more at.2 f)
+    block_ok (Stands line a next b) t names more at holds f =
+        let r = act_ok a line (site.on_line t line) names (block_pieces b ++ more) at holds.0.1 (split names (act_pieces line a) (block_pieces b) more f) in
+        let q = block_ok b (site.behind t (stmt_names (Stands line a))) r.1.0 more (at.0, at.1, r.1.1) holds.1 r.1.2 in
         ((r.0, q.0), further t.locals (act_names a) (block_names b) more q.1)
 
-    arms_ok : (arms : Arms) (t : Site) (names : Names) (more : Pieces) (rest : Block) → At t names → ArmsRead arms → faults_from find gives names (arms_pieces arms ++ more) ≡ []
+    arms_ok : (arms : Arms) (t : Site) (names : Names) (more : Pieces) (rest : Block) → At t names → ArmsHold L B arms → faults_from find gives names (arms_pieces arms ++ more) ≡ []
         → ((s : Site) (new : Names) → At s new → faults_from find gives new more ≡ [] → CanRun rest s) → CanChoose arms t (λ s. CanRun rest s) × Goes t.locals (arm_names arms) more
-    arms_ok no_arms t names more rest at reads f go = (go t names at f, no_more t.locals names more at.2 f)
-    arms_ok (arm line e b arms) t names more rest at reads f go =
+    arms_ok no_arms t names more rest at holds f go = (go t names at f, no_more t.locals names more at.2 f)
+    arms_ok (arm line e b arms) t names more rest at holds f go =
         let w = one_piece names line (Condition e) ((block_pieces b ++ arms_pieces arms) ++ more) f in
-        let r = block_ok b t names (arms_pieces arms ++ more) at reads.0 (split names (block_pieces b) (arms_pieces arms) more w.2) in
-        let q = arms_ok arms (site.behind t (block_names b)) r.1.0 more rest (at.0, at.1, r.1.1) reads.1 r.1.2 go in
+        let r = block_ok b t names (arms_pieces arms ++ more) at holds.1 (split names (block_pieces b) (arms_pieces arms) more w.2) in
+        let q = arms_ok arms (site.behind t (block_names b)) r.1.0 more rest (at.0, at.1, r.1.1) holds.2 r.1.2 go in
         ((kind_at (site.on_line t line) names at kind.Truth e w.1, r.0, q.0), further t.locals (block_names b) (arm_names arms) more q.1)
 
   claim_ok : (c : Option (ℕ × Tree)) (t : Site) (names : Names) (more : Pieces) → At t names → faults_from find gives names (claim_pieces c ++ more) ≡ [] → IsSomeClaim c t × (faults_from find gives names more ≡ [])
@@ -284,35 +283,39 @@ module _ (p : Program) (gives : Option Kind) (find : List ℕ → Option Called)
 
 -- ---- algorithms
 
-algorithm_ok : (p : Program) (find : List ℕ → Option Called) → ((x : List ℕ) → Means (find x) (callee p x)) → (a : Placed) → BlockReads a.algorithm.body → unit_faults find a.algorithm ≡ [] → IsCompilableAlgorithm p a
-algorithm_ok p find calls a reads f =
+algorithm_ok : (p : Program) (find : List ℕ → Option Called) → ((x : List ℕ) → Means (find x) (callee p x)) → (L : ℕ → Type 0) (B : Limits → Type 0) (a : Placed) → BlockHolds L B a.algorithm.body → unit_faults find a.algorithm ≡ [] → IsCompilableAlgorithm p a
+algorithm_ok p find calls L B a holds f =
     let gives = a.algorithm.head.gives in
     let params = a.algorithm.head.params in
     let body = block_pieces a.algorithm.body in
     let t = header_site p a in
     let names = behind [] (Parameters params) in
-    let w = one_piece p gives find calls [] a.algorithm.head.line (Parameters params) (claim_pieces a.algorithm.given ++ (claim_pieces a.algorithm.wanted ++ body)) f in
+    let w = one_piece L B p gives find calls [] a.algorithm.head.line (Parameters params) (claim_pieces a.algorithm.given ++ (claim_pieces a.algorithm.wanted ++ body)) f in
     let at : (t.program ≡ p) × (t.gives ≡ gives) × (t.locals ≡ plain names) = (refl, refl, sym (plain_params params) ∙ ap plain (sym (none_again [] (map parameter params) w.0))) in
-    let first = claim_ok p gives find calls a.algorithm.given t names (claim_pieces a.algorithm.wanted ++ body) at w.2 in
-    let second = claim_ok p gives find calls a.algorithm.wanted t names body at first.1 in
+    let first = claim_ok L B p gives find calls a.algorithm.given t names (claim_pieces a.algorithm.wanted ++ body) at w.2 in
+    let second = claim_ok L B p gives find calls a.algorithm.wanted t names body at first.1 in
     record {
-      params = formals_at p gives find calls t names at params w.1;
+      params = formals_at L B p gives find calls t names at params w.1;
       given = first.0;
       wanted = second.0;
-      body = (block_ok p gives find calls a.algorithm.body t names [] at reads (subst (λ ps. faults_from find gives names ps ≡ []) (sym (append-nil body)) second.1)).0;
+      body = (block_ok L B p gives find calls a.algorithm.body t names [] at holds (subst (λ ps. faults_from find gives names ps ≡ []) (sym (append-nil body)) second.1)).0;
     }
 
 -- ---- units
 
+abbrev on_lines : ℕ × Known → ℕ → Type 0
+on_lines u line = u.0 + line ≤ 4294967295
+
 -- a unit whose algorithm was read
 abbrev IsGrown : ℕ × Known → Type 0
-IsGrown u = (a : Algorithm) × (u.1.ending ≡ Grown a) × (u.1.head ≡ Some a.head)
+IsGrown u = (a : Algorithm) × (u.1.ending ≡ Grown a) × (u.1.head ≡ Some a.head) × BlockHolds (on_lines u) HasDimensions a.body
 
 module _ (find : List ℕ → Option Called) where
-  grown_ending : (head : Option Head) (e : Ending) → EndsUnit head e → own_faults find e ≡ [] → (a : Algorithm) × (e ≡ Grown a) × (head ≡ Some a.head)
-  grown_ending head (Grown a) ends f = (a, refl, ends)
-  grown_ending head Prelude ends f = absurd ends
-  grown_ending head (Faulty faults) ends f = absurd (ends f)
+  grown_ending : (L : ℕ → Type 0) (B : Limits → Type 0) (head : Option Head) (e : Ending) → EndsUnit head e → EndingHolds L B e → own_faults find e ≡ []
+      → (a : Algorithm) × (e ≡ Grown a) × (head ≡ Some a.head) × BlockHolds L B a.body
+  grown_ending L B head (Grown a) ends holds f = (a, refl, ends, holds.3)
+  grown_ending L B head Prelude ends holds f = absurd ends
+  grown_ending L B head (Faulty faults) ends holds f = absurd (ends f)
 
   own : (u : ℕ × Known) (units : List (ℕ × Known)) → all_placed_faults find (u ∷ units) ≡ [] → (own_faults find u.1.ending ≡ []) × (all_placed_faults find units ≡ [])
   own u units f =
@@ -322,7 +325,7 @@ module _ (find : List ℕ → Option Called) where
 
   all_grown : (units : List (ℕ × Known)) → AllByRecursion (λ u. IsUnitRead u.1 × IsPlaced u) units → all_placed_faults find units ≡ [] → AllByRecursion IsGrown units
   all_grown [] sound f = _
-  all_grown (u ∷ units) sound f = let w = own u units f in (grown_ending u.1.head u.1.ending sound.0.0.0 w.0, all_grown units sound.1 w.1)
+  all_grown (u ∷ units) sound f = let w = own u units f in (grown_ending (on_lines u) HasDimensions u.1.head u.1.ending sound.0.0.0 sound.0.1.1.2 w.0, all_grown units sound.1 w.1)
 
 abbrev placed_at : ℕ → Algorithm → Placed
 placed_at first a = record { first = first; algorithm = a }
@@ -330,16 +333,13 @@ placed_at first a = record { first = first; algorithm = a }
 grown_is : (u : ℕ × Known) (units : List (ℕ × Known)) (a : Algorithm) → u.1.ending ≡ Grown a → grown (u ∷ units) ≡ placed_at u.0 a ∷ grown units
 grown_is u units a e = rw e refl
 
-all_compilable : (p : Program) (find : List ℕ → Option Called) → ((x : List ℕ) → Means (find x) (callee p x)) → (units : List (ℕ × Known)) → AllByRecursion IsGrown units
-    → AllByRecursion (λ a. BlockReads a.algorithm.body) (grown units) → all_placed_faults find units ≡ [] → AreCompilable p (grown units)
-all_compilable p find calls [] all reads f = tt
-all_compilable p find calls (u ∷ units) all reads f =
+all_compilable : (p : Program) (find : List ℕ → Option Called) → ((x : List ℕ) → Means (find x) (callee p x)) → (units : List (ℕ × Known)) → AllByRecursion IsGrown units → all_placed_faults find units ≡ [] → AreCompilable p (grown units)
+all_compilable p find calls [] all f = tt
+all_compilable p find calls (u ∷ units) all f =
     let a = all.0.0 in
-    let is = grown_is u units a all.0.1 in
     let w = own find u units f in
-    let both_read = subst (AllByRecursion (λ b. BlockReads b.algorithm.body)) is reads in
-    subst (AreCompilable p) (sym is)
-    (algorithm_ok p find calls (placed_at u.0 a) both_read.0 (subst (λ e. own_faults find e ≡ []) all.0.1 w.0), all_compilable p find calls units all.1 both_read.1 w.1)
+    subst (AreCompilable p) (sym (grown_is u units a all.0.1))
+    (algorithm_ok p find calls (on_lines u) HasDimensions (placed_at u.0 a) all.0.3 (subst (λ e. own_faults find e ≡ []) all.0.1 w.0), all_compilable p find calls units all.1 w.1)
 
 -- ---- headers
 
@@ -374,9 +374,9 @@ none_counted c (Some h) e = absurd (let wrong : ⊥ = cc in wrong)
 
 -- ---- programs
 
-pub compilable : (units : List (ℕ × Known)) → IsSound units → program_faults units ≡ [] → ReadsVariables (program_of units) → IsCompilable (program_of units)
-compilable [] sound f reads = tt
-compilable (prelude ∷ units) sound f reads =
+pub compilable : (units : List (ℕ × Known)) → IsSound units → program_faults units ≡ [] → IsCompilable (program_of units)
+compilable [] sound f = tt
+compilable (prelude ∷ units) sound f =
     let p = program_of (prelude ∷ units) in
     let start = no_heads prelude.1.performers in
     let find = rules.callee (headers_in (prelude ∷ units)) in
@@ -387,4 +387,4 @@ compilable (prelude ∷ units) sound f reads =
     let all = all_grown find units sound.2 placed.1 in
     let found : headers_in (prelude ∷ units) ≡ callees_in p =
     ap (λ d. all_counted d units) first ∙ all_count start units all (subst (λ d. all_faults d units ≡ []) first headers.1) in
-    all_compilable p find (λ x. subst (λ c. Means (rules.callee c x) (callee p x)) (sym found) (means p x)) units all reads placed.1
+    all_compilable p find (λ x. subst (λ c. Means (rules.callee c x) (callee p x)) (sym found) (means p x)) units all placed.1

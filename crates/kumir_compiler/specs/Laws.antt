@@ -11,7 +11,6 @@ use Rattle.stack_code.specs.CodeRuns.{CodeRun, Begins}
 use Rattle.type_check.specs.Margin.{program_faults}
 use Rattle.kumir_compiler.specs.Code.{code_of}
 use Rattle.kumir_compiler.specs.Compilable.{IsCompilable}
-use Rattle.kumir_compiler.specs.Inputs.{ReadsVariables}
 
 -- on all inputs and replies and within each number of steps the code runs as the program means, from the first algorithm on
 abbrev pub CodeMeansTheProgram : Type 0
@@ -27,6 +26,6 @@ MeaningOnlyGrows =
 abbrev pub SamplesAreCompilable : Type 0
 SamplesAreCompilable = IsCompilable adding × IsCompilable swapping
 
--- the premise holds of the program of all sound units without a fault, where inputs go to names and elements
+-- the premise holds of the program of all sound units without a fault
 abbrev pub FaultlessIsCompilable : Type 0
-FaultlessIsCompilable = (units : List (ℕ × Known)) → IsSound units → program_faults units ≡ [] → ReadsVariables (program_of units) → IsCompilable (program_of units)
+FaultlessIsCompilable = (units : List (ℕ × Known)) → IsSound units → program_faults units ≡ [] → IsCompilable (program_of units)

@@ -1,4 +1,3 @@
 pub mod Code
 pub mod Compilable
-pub mod Inputs
 pub mod Laws

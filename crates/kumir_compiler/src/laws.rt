@@ -17,7 +17,7 @@ pub fn samples_are_compilable()
     ensures { SamplesAreCompilable }
 {}
 
-/// The premise holds of each program without a fault, where inputs go to names and elements.
+/// The premise holds of each program without a fault.
 pub fn faultless_is_compilable()
     ensures { FaultlessIsCompilable }
 {}

@@ -4,11 +4,11 @@ use Rattle.std.specs.List.{AllByRecursion}
 use Rattle.km_base.specs.declared.performers.Performers.{Performers}
 use Rattle.kumir_tree.specs.declared.unit.Fault.{Fault}
 use Rattle.kumir_tree.specs.Tree.{Tree}
-use Rattle.kumir_tree.specs.Part.{Limits, Declares, Scalars, Tables, Head}
+use Rattle.kumir_tree.specs.Part.{Limits, Place, ToAnswer, ToScalar, ToElement, Declares, Scalars, Tables, Head}
 use Rattle.kumir_tree.specs.Program.{Stmt, Act, Stands, Declare, Assign, Invoke, Times, While, Count, Forever, Until, Choose, Select, Assert, Input, Output, Leave, Quit, Block, done, ◌next◌, Arms, no_arms, arm}
 use Rattle.kumir_tree.specs.Unit.{Algorithm, Ending, Grown, Prelude, Faulty, Known}
 
--- ---- what holds of each line and of all bounds of a unit
+-- ---- what holds of each line, of all bounds and of all inputs of a unit
 
 abbrev pub SomeBounds : (Limits → Type 0) → Option Limits → Type 0
 SomeBounds B None = ⊤
@@ -20,6 +20,12 @@ DeclaresHold B (Tables k ts) = AllByRecursion (λ t. B t.1) ts
 
 abbrev pub HeadHolds : (ℕ → Type 0) → (Limits → Type 0) → Head → Type 0
 HeadHolds L B h = L h.line × AllByRecursion (λ p. SomeBounds B p.bounds) h.params
+
+-- `ввод` takes names and elements
+abbrev pub IsInputTarget : Place → Type 0
+IsInputTarget ToAnswer = ⊥
+IsInputTarget (ToScalar x) = ⊤
+IsInputTarget (ToElement x es) = ⊤
 
 abbrev mutual
   pub ActHolds : (ℕ → Type 0) → (Limits → Type 0) → Act → Type 0
@@ -34,7 +40,7 @@ abbrev mutual
   ActHolds L B (Choose e a b) = BlockHolds L B a × BlockHolds L B b
   ActHolds L B (Select arms b) = ArmsHold L B arms × BlockHolds L B b
   ActHolds L B (Assert e) = ⊤
-  ActHolds L B (Input ts) = ⊤
+  ActHolds L B (Input ts) = AllByRecursion IsInputTarget ts
   ActHolds L B (Output xs) = ⊤
   ActHolds L B Leave = ⊤
   ActHolds L B Quit = ⊤
