@@ -7,7 +7,7 @@ use Rattle.kumir_values.specs.declared.bounds.Bound.{Bound}
 use Rattle.kumir_values.specs.declared.run_end.RunFault.{RunFault}
 use Rattle.kumir_values.specs.declared.run_end.RunFault.TheVariants.{Unset, Index, Bounds, Elements, NoValue}
 use Rattle.kumir_values.specs.Bounds.{all_ordered, elements, inside}
-use Rattle.kumir_values.specs.Tables.{no_value, changed, found_value}
+use Rattle.kumir_values.specs.Tables.{no_value, changed, found_value, is_of_kind}
 
 -- a variable of an algorithm: `знач`, or a name
 pub data Variable : Type 0 where
@@ -91,11 +91,15 @@ abbrev pub read_at : Spot → Store → Result Value RunFault
 read_at (AtVariable x) s = read (s.cells x)
 read_at (AtElement x index) s = element (s.cells (Local x)) index
 
--- a table with another element, with or without a value
+-- A table with another element, with or without a value. An element outside the bounds, or a value of another kind, leaves it as it
+-- is: a program without faults stores neither.
 abbrev pub with_element : Cell → List ℤ → Option Value → Cell
 with_element Empty index v = Empty
 with_element (Has w) index v = Has w
-with_element (Holds t) index v = Holds (record { kind = t.kind; bounds = t.bounds; values = changed t.values index v })
+with_element (Holds t) index v =
+    if inside t.bounds index && is_of_kind t.kind v
+    then Holds (record { kind = t.kind; bounds = t.bounds; values = changed t.values index v })
+    else Holds t
 
 abbrev pub put : Spot → Option Value → Store → Store
 put (AtVariable x) v s = with_cell s x (cell_of v)

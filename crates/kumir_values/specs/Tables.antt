@@ -1,7 +1,9 @@
 -- Tables as finite maps from lists of indexes to values, beside their bounds.
 use Rattle.std.specs.Prelude.{◌≡◌, ℕ, ◌<◌, ◌^◌, Bool, true, false, ◌&&◌, IsTrue, List, [], ◌∷◌, length, get_or, ℤ, int_le, Option, Some, None, Result, Ok, Err, if◌then◌else◌}
 use Rattle.kumir_tree.specs.declared.kind.Kind.{Kind}
+use Rattle.kumir_tree.specs.declared.kind.Kind.TheVariants as kind
 use Rattle.kumir_values.specs.declared.value.Value.{Value}
+use Rattle.kumir_values.specs.declared.value.Value.TheVariants.{Whole, Truth}
 use Rattle.kumir_values.specs.declared.bounds.Bound.{Bound}
 use Rattle.kumir_values.specs.declared.run_end.RunFault.{RunFault}
 use Rattle.kumir_values.specs.declared.run_end.RunFault.TheVariants.{Index, Unset}
@@ -45,6 +47,14 @@ read_at t index = if inside t.bounds index then found_value (value_at t index) e
 abbrev pub IsOfKind : Kind → Option Value → Type 0
 IsOfKind kind None = Unit {0}
 IsOfKind kind (Some v) = kind_of v ≡ kind
+
+-- whether a table of that kind can take it: no value, or one of the kind
+abbrev pub is_of_kind : Kind → Option Value → Bool
+is_of_kind k None = true
+is_of_kind kind.Whole (Some (Whole z)) = true
+is_of_kind kind.Whole (Some (Truth b)) = false
+is_of_kind kind.Truth (Some (Whole z)) = false
+is_of_kind kind.Truth (Some (Truth b)) = true
 
 -- what holds of every table
 pub record IsTable (kind : Kind) (bounds : List Bound) (held : List (Option Value)) : Type 0 where
