@@ -1,6 +1,6 @@
 -- The way of the code over requests follows the answer rule: what it writes has no run, it has the margin of the newest
 -- version, and an `edit V` for each accepted edit.
-use Rattle.std.proofs.Common.{◌≡◌, ◌≢◌, ℕ, ◌+◌, ◌<◌, ◌≤◌, ◌⊎◌, inl, inr, ⊎_elim, Bool, true, false, cond, List, [], ◌∷◌, ◌++◌, length, take, sym, ap, subst, ◌∙◌, refl, append_assoc, arith}
+use Rattle.std.proofs.Common.{◌≡◌, ◌≢◌, ℕ, ◌+◌, ◌≤◌, inr, ⊎_elim, Bool, true, false, cond, List, [], ◌∷◌, ◌++◌, length, sym, ap, subst, ◌∙◌, refl, append_assoc, arith}
 use Rattle.std.specs.Prelude.{if◌then◌else◌, nat_le, Result, Ok, Err}
 use Rattle.std.specs.List.{Contains}
 use Rattle.std.proofs.lemmas.List.{take_all, length-append}
@@ -12,7 +12,7 @@ use Rattle.text_versions.specs.declared.limits.TheConstants.{TEXT_LIMITS}
 use Rattle.text_versions.specs.declared.versions.ApplyRefusal.{ApplyRefusal}
 use Rattle.text_versions.specs.declared.versions.ApplyRefusal.TheVariants as refusal
 use Rattle.text_versions.specs.Texts.{is_within}
-use Rattle.text_versions.specs.Edits.{is_in_range, edited, text_after, version, answer_to}
+use Rattle.text_versions.specs.Edits.{is_in_range, edited, text_after, answer_to}
 use Rattle.script_lines.specs.declared.request.Ask.{Ask}
 use Rattle.script_lines.specs.declared.request.Ask.TheVariants as ask
 use Rattle.script_lines.specs.declared.request.Request.{Request}

@@ -1,5 +1,5 @@
 -- Requests carried out one after another, and the print of their answers.
-use Rattle.std.proofs.Common.{◌≡◌, ◌≢◌, ℕ, ◌+◌, ◌<◌, ◌≤◌, List, [], ◌∷◌, ◌++◌, length, Option, Some, None, sym, ap, subst, ◌∙◌, refl, append_assoc, append-nil}
+use Rattle.std.proofs.Common.{◌≡◌, ◌≢◌, ℕ, List, [], ◌∷◌, ◌++◌, Option, Some, None, sym, ap, subst, ◌∙◌, refl, append_assoc, append-nil}
 use Rattle.km_ports.specs.Ports.{PutsInto}
 use Rattle.km_ports.proofs.PortLaws.{PutsInto-nothing, PutsInto-then}
 use Rattle.text_versions.specs.declared.edit.Edit.{Edit}

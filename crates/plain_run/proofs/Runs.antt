@@ -1,5 +1,5 @@
 -- The runs of a command that reads a text, by the status that they end with.
-use Rattle.std.proofs.Common.{◌≡◌, ℕ, ◌-◌, ◌<◌, ◌⊎◌, inl, inr, true, List, [], length, Option, None, Some, arith, sym, ap, subst, ◌∙◌, refl}
+use Rattle.std.proofs.Common.{◌≡◌, ℕ, ◌-◌, ◌⊎◌, inl, inr, true, List, [], length, Some, arith, sym, subst, refl}
 use Rattle.std.specs.Prelude.{Result, Ok, Err, OnOk, OnErr}
 use Rattle.std.specs.Io.KnownBytes.{IsAtEnd}
 use Rattle.km_base.specs.declared.limits.TheConstants.{TEXT_BYTES}

@@ -1,11 +1,11 @@
 -- The parts of a run of `plain`, one after another.
-use Rattle.std.proofs.Common.{◌≡◌, ℕ, ◌+◌, ◌<◌, ◌≤◌, ◌⊎◌, inl, inr, true, false, List, [], ◌∷◌, ◌++◌, length, Option, Some, None, sym, ap, subst, ◌∙◌, refl, append_assoc, append-nil, length-append, arith}
+use Rattle.std.proofs.Common.{◌≡◌, ℕ, ◌+◌, ◌≤◌, inl, inr, List, [], ◌∷◌, ◌++◌, length, Option, Some, None, sym, ap, subst, ◌∙◌, refl, append_assoc, append-nil, length-append, arith}
 use Rattle.std.specs.Prelude.{Result, Ok, Err}
 use Rattle.std.specs.Io.KnownBytes.{IsAtEnd}
 use Rattle.km_base.specs.declared.limits.TheConstants.{SCRIPT_BYTES}
-use Rattle.km_ports.specs.Ports.{TakesFrom, PutsInto, Rose}
-use Rattle.km_ports.specs.Whole.{IsWhole, IsLongerThan}
-use Rattle.km_ports.proofs.PortLaws.{PutsInto-then, TakesFrom-then, TakesFrom-nothing, IsWhole-at_end}
+use Rattle.km_ports.specs.Ports.{TakesFrom, PutsInto}
+use Rattle.km_ports.specs.Whole.{IsLongerThan}
+use Rattle.km_ports.proofs.PortLaws.{TakesFrom-then, TakesFrom-nothing, IsWhole-at_end}
 use Rattle.km_ports.specs.declared.status.Status.{Status}
 use Rattle.km_ports.specs.declared.status.Status.TheVariants as status
 use Rattle.km_ports.specs.declared.status.Excess.TheVariants as excess
@@ -15,12 +15,12 @@ use Rattle.script_lines.specs.Requests.{whole, requests}
 use Rattle.transcript.specs.declared.entry.Entry.{Entry}
 use Rattle.transcript.specs.declared.entry.Entry.TheVariants as entry
 use Rattle.transcript.specs.Print.{print, printed_entry}
-use Rattle.plain_run.specs.Runs.{Ports, ports, NothingFailed}
+use Rattle.plain_run.specs.Runs.{Ports, ports}
 use Rattle.plain_run.specs.Ending.{StopsPut}
 use Rattle.plain_run.specs.Plain.{IsPlain, PutsEntries}
 use Rattle.plain_run.specs.Carried.{Carries, IsNewestMargin, StopsFor, HasCarried}
-use Rattle.plain_run.specs.Scripts.{is_listed, IsScriptRun}
-use Rattle.plain_run.proofs.Carried.{carries_then, puts_carried, puts_nothing, put_behind}
+use Rattle.plain_run.specs.Scripts.{IsScriptRun}
+use Rattle.plain_run.proofs.Carried.{puts_carried, puts_nothing, put_behind}
 use Rattle.plain_run.proofs.Answered.{plain_of}
 use Rattle.plain_run.proofs.Told.{whole_told, long_told}
 
