@@ -1,5 +1,5 @@
 -- Requests carried out one after another, and the print of their answers.
-use Rattle.std.proofs.Common.{◌≡◌, ◌≢◌, ℕ, ◌+◌, ◌<◌, ◌≤◌, List, [], ◌∷◌, ◌++◌, length, Option, Some, None, sym, ap, subst, ◌∙◌, refl, append_assoc, append-nil}
+use Rattle.std.proofs.Common.{◌≡◌, ◌≢◌, ℕ, List, [], ◌∷◌, ◌++◌, Option, Some, None, sym, ap, subst, ◌∙◌, refl, append_assoc, append-nil}
 use Rattle.km_ports.specs.Ports.{PutsInto}
 use Rattle.km_ports.proofs.PortLaws.{PutsInto-nothing, PutsInto-then}
 use Rattle.text_versions.specs.declared.edit.Edit.{Edit}
@@ -17,7 +17,8 @@ use Rattle.script_lines.specs.declared.request.Ask.{Ask}
 use Rattle.script_lines.specs.Requests.{whole, requests}
 use Rattle.script_lines.specs.Reader.{answered}
 use Rattle.transcript.specs.declared.entry.Entry.TheVariants as entry
-use Rattle.plain_run.specs.Plain.{IsMarginOf, Alone, SaysEdit, Answers, Carries, PutsEntries}
+use Rattle.plain_run.specs.Plain.{PutsEntries}
+use Rattle.plain_run.specs.Carried.{IsNewestMargin, Alone, SaysEdit, Answers, Carries}
 
 pub carries_none : (edits : List Edit) → Carries edits [] [] edits
 unfolding Carries
@@ -58,11 +59,11 @@ puts_one e before now p = subst (PutsInto before now) (sym (append-nil (printed_
 pub puts_alone : (e : Entry) (edits : List Edit) (before now : Option (List ℕ)) → PutsInto before now (printed_entry e) → PutsEntries (λ es. Alone e edits es edits) before now
 puts_alone e edits before now p = (e ∷ [], (refl, refl), puts_one e before now p)
 
-pub puts_margin : (edits : List Edit) (margin : Entry) (before now : Option (List ℕ)) → IsMarginOf edits margin → PutsInto before now (printed_entry margin) → PutsEntries (λ es. (m : Entry) × IsMarginOf edits m × (es ≡ m ∷ [])) before now
+pub puts_margin : (edits : List Edit) (margin : Entry) (before now : Option (List ℕ)) → IsNewestMargin edits margin → PutsInto before now (printed_entry margin) → PutsEntries (λ es. (m : Entry) × IsNewestMargin edits m × (es ≡ m ∷ [])) before now
 puts_margin edits margin before now m p = (margin ∷ [], (margin, m, refl), puts_one margin before now p)
 
 -- the answer to an edit that was accepted
-pub puts_edit : (edits after : List Edit) (e : Edit) (version : ℕ) (before between now : Option (List ℕ)) → answer_to TEXT_LIMITS edits e ≡ Ok version → after ≡ edits ++ e ∷ [] → PutsInto before between (printed_entry (entry.Edit version)) → PutsEntries (λ es. (m : Entry) × IsMarginOf after m × (es ≡ m ∷ [])) between now → PutsEntries (λ es. SaysEdit (answer_to TEXT_LIMITS edits e) edits e es after) before now
+pub puts_edit : (edits after : List Edit) (e : Edit) (version : ℕ) (before between now : Option (List ℕ)) → answer_to TEXT_LIMITS edits e ≡ Ok version → after ≡ edits ++ e ∷ [] → PutsInto before between (printed_entry (entry.Edit version)) → PutsEntries (λ es. (m : Entry) × IsNewestMargin after m × (es ≡ m ∷ [])) between now → PutsEntries (λ es. SaysEdit (answer_to TEXT_LIMITS edits e) edits e es after) before now
 puts_edit edits after e version before between now says accepted p q =
     let margin = q.1.0 in
     let put : PutsInto between now (print (margin ∷ [])) = subst (λ es. PutsInto between now (print es)) q.1.2 q.2 in (

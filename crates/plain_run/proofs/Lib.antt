@@ -1,5 +1,6 @@
 pub mod Prints
 pub mod Marks
+pub mod Told
 pub mod Runs
 pub mod Sizes
 pub mod Limits
@@ -7,4 +8,5 @@ pub mod Feeds
 pub mod Within
 pub mod Checks
 pub mod Carried
+pub mod Answered
 pub mod ScriptRuns

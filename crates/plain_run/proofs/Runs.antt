@@ -1,5 +1,5 @@
 -- The runs of a command that reads a text, by the status that they end with.
-use Rattle.std.proofs.Common.{◌≡◌, ℕ, ◌-◌, ◌<◌, ◌⊎◌, inl, inr, true, List, [], length, Option, None, Some, arith, sym, ap, subst, ◌∙◌, refl}
+use Rattle.std.proofs.Common.{◌≡◌, ℕ, ◌-◌, ◌⊎◌, inl, inr, true, List, [], length, Some, arith, sym, subst, refl}
 use Rattle.std.specs.Prelude.{Result, Ok, Err, OnOk, OnErr}
 use Rattle.std.specs.Io.KnownBytes.{IsAtEnd}
 use Rattle.km_base.specs.declared.limits.TheConstants.{TEXT_BYTES}
@@ -16,16 +16,7 @@ use Rattle.km_ports.specs.Whole.{IsWhole, IsLongerThan, CountsRead}
 use Rattle.plain_run.specs.Texts.{IsText, IsRefusedAs, says_no_text, says_done}
 use Rattle.plain_run.specs.Runs.{Ports, Wrote, WroteNothing, WroteFront, IsTextRun}
 use Rattle.plain_run.specs.Ending.{unread, ended}
-
--- ---- what a source told
-
-whole_told : (before now : Option (List ℕ)) (bytes input : List ℕ) → IsWhole before now bytes → before ≡ Some input → bytes ≡ input
-whole_told None now bytes input h e = absurd (let none : ⊥ = cc in none)
-whole_told (Some left) now bytes input h e = h.0 ∙ (let same : left ≡ input = cc in same)
-
-long_told : (before : Option (List ℕ)) (input : List ℕ) → IsLongerThan TEXT_BYTES before → before ≡ Some input → TEXT_BYTES < length input
-long_told None input h e = absurd (let none : ⊥ = cc in none)
-long_told (Some left) input h e = let same : length left ≡ length input = ap length (let same : left ≡ input = cc in same) in omega (arith, h, same)
+use Rattle.plain_run.proofs.Told.{whole_told, long_told}
 
 -- ---- an input that is no text
 
@@ -106,7 +97,7 @@ no_memory_run A p nothing = memory_run A p (λ input told. inl nothing)
 
 pub unread_run : (T : Type 0) (A : List ℕ → Status → List ℕ → Type 0) (p : Ports) (r : ReadRefusal) → WroteNothing p → (r ≡ refusal.TooLong → IsLongerThan TEXT_BYTES p.left_before) → CountsRead {T = T} p.source_faults_before p.source_faults (Err r) → IsTextRun A p (unread r)
 unread_run T A p refusal.Failed nothing long cause = read_run A p nothing cause
-unread_run T A p refusal.TooLong nothing long cause = no_text_run A p (status.TooLong excess.Bytes) refl nothing (λ input told. long_told p.left_before input (long refl) told)
+unread_run T A p refusal.TooLong nothing long cause = no_text_run A p (status.TooLong excess.Bytes) refl nothing (λ input told. long_told TEXT_BYTES p.left_before input (long refl) told)
 unread_run T A p refusal.Memory nothing long cause = no_memory_run A p nothing
 
 -- ---- a text

@@ -1,11 +1,11 @@
 -- The parts of a run of `plain`, one after another.
-use Rattle.std.proofs.Common.{◌≡◌, ℕ, ◌+◌, ◌<◌, ◌≤◌, ◌⊎◌, inl, inr, true, false, List, [], ◌∷◌, ◌++◌, length, Option, Some, None, sym, ap, subst, ◌∙◌, refl, append_assoc, append-nil, length-append, arith}
+use Rattle.std.proofs.Common.{◌≡◌, ℕ, ◌+◌, ◌≤◌, inl, inr, List, [], ◌∷◌, ◌++◌, length, Option, Some, None, sym, ap, subst, ◌∙◌, refl, append_assoc, append-nil, length-append, arith}
 use Rattle.std.specs.Prelude.{Result, Ok, Err}
 use Rattle.std.specs.Io.KnownBytes.{IsAtEnd}
 use Rattle.km_base.specs.declared.limits.TheConstants.{SCRIPT_BYTES}
-use Rattle.km_ports.specs.Ports.{TakesFrom, PutsInto, Rose}
-use Rattle.km_ports.specs.Whole.{IsWhole, IsLongerThan}
-use Rattle.km_ports.proofs.PortLaws.{PutsInto-then, TakesFrom-then, TakesFrom-nothing, IsWhole-at_end}
+use Rattle.km_ports.specs.Ports.{TakesFrom, PutsInto}
+use Rattle.km_ports.specs.Whole.{IsLongerThan}
+use Rattle.km_ports.proofs.PortLaws.{TakesFrom-then, TakesFrom-nothing, IsWhole-at_end}
 use Rattle.km_ports.specs.declared.status.Status.{Status}
 use Rattle.km_ports.specs.declared.status.Status.TheVariants as status
 use Rattle.km_ports.specs.declared.status.Excess.TheVariants as excess
@@ -15,11 +15,14 @@ use Rattle.script_lines.specs.Requests.{whole, requests}
 use Rattle.transcript.specs.declared.entry.Entry.{Entry}
 use Rattle.transcript.specs.declared.entry.Entry.TheVariants as entry
 use Rattle.transcript.specs.Print.{print, printed_entry}
-use Rattle.plain_run.specs.Runs.{Ports, ports, NothingFailed}
+use Rattle.plain_run.specs.Runs.{Ports, ports}
 use Rattle.plain_run.specs.Ending.{StopsPut}
-use Rattle.plain_run.specs.Plain.{Carries, IsMarginOf, IsPlain, PutsEntries}
-use Rattle.plain_run.specs.Scripts.{is_listed, IsScriptRun, StopsFor, HasCarried}
-use Rattle.plain_run.proofs.Carried.{carries_then, puts_carried, puts_nothing, put_behind}
+use Rattle.plain_run.specs.Plain.{IsPlain, PutsEntries}
+use Rattle.plain_run.specs.Carried.{Carries, IsNewestMargin, StopsFor, HasCarried}
+use Rattle.plain_run.specs.Scripts.{IsScriptRun}
+use Rattle.plain_run.proofs.Carried.{puts_carried, puts_nothing, put_behind}
+use Rattle.plain_run.proofs.Answered.{plain_of}
+use Rattle.plain_run.proofs.Told.{whole_told, long_told}
 
 -- more bytes than `room` stand behind these bytes
 longer_behind : (most room : ℕ) (before now : Option (List ℕ)) (fed : List ℕ) → length fed + room ≡ most → TakesFrom before now fed → IsLongerThan room now → IsLongerThan most before
@@ -63,26 +66,18 @@ carried_more left0 left1 left2 s0 s1 s2 w0 w1 w2 k0 k1 k2 fed piece a b c p q = 
 }
 
 -- the whole run
-pub whole_plain : (margin : Entry) (fed : List ℕ) (more last : List Request) (b c : List Edit) (w0 w1 w2 w3 w4 : Option (List ℕ)) → IsMarginOf [] margin → PutsInto w0 w1 (print (margin ∷ [])) → whole fed ≡ whole [] ++ more → requests fed ≡ whole fed ++ last → PutsEntries (λ es. Carries [] more es b) w1 w2 → PutsEntries (λ es. Carries b last es c) w2 w3 → PutsInto w3 w4 (printed_entry entry.Bye) → PutsEntries (IsPlain (requests fed)) w0 w4
+pub whole_plain : (margin : Entry) (fed : List ℕ) (more last : List Request) (b c : List Edit) (w0 w1 w2 w3 w4 : Option (List ℕ)) → IsNewestMargin [] margin → PutsInto w0 w1 (print (margin ∷ [])) → whole fed ≡ whole [] ++ more → requests fed ≡ whole fed ++ last → PutsEntries (λ es. Carries [] more es b) w1 w2 → PutsEntries (λ es. Carries b last es c) w2 w3 → PutsInto w3 w4 (printed_entry entry.Bye) → PutsEntries (IsPlain (requests fed)) w0 w4
 whole_plain margin fed more last b c w0 w1 w2 w3 w4 m pm em el pa pl pb =
     let none : whole [] ≡ [] = refl in
     let both = puts_carried more last [] b c w1 w2 w3 pa pl in
     let all : requests fed ≡ more ++ last = el ∙ ap (λ rs. rs ++ last) (em ∙ ap (λ rs. rs ++ more) none) in
     let bye : PutsInto w3 w4 (print (entry.Bye ∷ [])) = subst (PutsInto w3 w4) (sym (append-nil (printed_entry entry.Bye))) pb in (
       margin ∷ both.0 ++ entry.Bye ∷ [],
-      (margin, both.0, c, m, subst (λ rs. Carries [] rs both.0 c) (sym all) both.1, refl),
+      plain_of (requests fed) margin both.0 c m (subst (λ rs. Carries [] rs both.0 c) (sym all) both.1),
       put_behind (margin ∷ []) (both.0 ++ entry.Bye ∷ []) w0 w1 w4 pm (put_behind both.0 (entry.Bye ∷ []) w1 w3 w4 both.2 bye),
     )
 
 -- ---- the status
-
-long_told : (before : Option (List ℕ)) (input : List ℕ) → IsLongerThan SCRIPT_BYTES before → before ≡ Some input → SCRIPT_BYTES < length input
-long_told None input h e = absurd (let none : ⊥ = cc in none)
-long_told (Some left) input h e = let same : length left ≡ length input = ap length (let same : left ≡ input = cc in same) in omega (arith, h, same)
-
-whole_told : (before now : Option (List ℕ)) (bytes input : List ℕ) → IsWhole before now bytes → before ≡ Some input → bytes ≡ input
-whole_told None now bytes input h e = absurd (let none : ⊥ = cc in none)
-whole_told (Some left) now bytes input h e = h.0 ∙ (let same : left ≡ input = cc in same)
 
 stopped_run : (p : Ports) (s : Status) → StopsFor {T = Unit {0}} SCRIPT_BYTES p (Err s) → IsScriptRun p s
 stopped_run p status.Read c = record {
@@ -117,9 +112,9 @@ stopped_run p (status.TooLong excess.Bytes) c = record {
   ended = λ e. absurd (let none : ⊥ = cc in none);
   read = λ e. absurd (let none : ⊥ = cc in none);
   write = λ e. absurd (let none : ⊥ = cc in none);
-  long = λ e input told. long_told p.left_before input c told;
+  long = λ e input told. long_told SCRIPT_BYTES p.left_before input c told;
   listed = refl;
-  complete = λ input told within quiet. absurd (omega (arith, within, long_told p.left_before input c told));
+  complete = λ input told within quiet. absurd (omega (arith, within, long_told SCRIPT_BYTES p.left_before input c told));
 }
 stopped_run p (status.TooLong excess.Lines) c = absurd c
 stopped_run p (status.TooLong (excess.Characters n)) c = absurd c
@@ -159,10 +154,10 @@ more_carried left0 left1 left2 s0 s1 s2 w0 w1 w2 k0 k1 k2 fed a b c reader count
     (fed ++ q.0, q.2, length-append fed q.0 ∙ ap (λ n. length fed + n) q.1, carried_more left0 left1 left2 s0 s1 s2 w0 w1 w2 k0 k1 k2 fed q.0 a b c p q.3)
 
 -- the margin of the empty version was put, then what all lines complete, then what the end completes, then `bye`
-pub plain_put : (fed : List ℕ) (more : List Request) (a b c : List Edit) (w0 w1 w2 w3 w4 : Option (List ℕ)) → a ≡ [] → PutsEntries (λ es. (m : Entry) × IsMarginOf a m × (es ≡ m ∷ [])) w0 w1 → whole fed ≡ whole [] ++ more → PutsEntries (λ es. Carries a more es b) w1 w2 → PutsEntries (λ es. (l : List Request) × (requests fed ≡ whole fed ++ l) × Carries b l es c) w2 w3 → PutsInto w3 w4 (printed_entry entry.Bye) → PutsEntries (IsPlain (requests fed)) w0 w4
+pub plain_put : (fed : List ℕ) (more : List Request) (a b c : List Edit) (w0 w1 w2 w3 w4 : Option (List ℕ)) → a ≡ [] → PutsEntries (λ es. (m : Entry) × IsNewestMargin a m × (es ≡ m ∷ [])) w0 w1 → whole fed ≡ whole [] ++ more → PutsEntries (λ es. Carries a more es b) w1 w2 → PutsEntries (λ es. (l : List Request) × (requests fed ≡ whole fed ++ l) × Carries b l es c) w2 w3 → PutsInto w3 w4 (printed_entry entry.Bye) → PutsEntries (IsPlain (requests fed)) w0 w4
 plain_put fed more a b c w0 w1 w2 w3 w4 none m em more_put last_put bye =
     whole_plain m.1.0 fed more last_put.1.0 b c w0 w1 w2 w3 w4
-    (subst (λ edits. IsMarginOf edits m.1.0) none m.1.1)
+    (subst (λ edits. IsNewestMargin edits m.1.0) none m.1.1)
     (subst (λ es. PutsInto w0 w1 (print es)) m.1.2 m.2)
     em last_put.1.1
     (subst (λ edits. PutsEntries (λ es. Carries edits more es b) w1 w2) none more_put)

@@ -8,7 +8,8 @@ ghost use Rattle.script_lines.specs.declared.request.Ask.{Ask};
 ghost use Rattle.transcript.specs.Print.{IsPrintable, printed_entry};
 ghost use Rattle.km_ports.specs.Ports.{PutsInto};
 ghost use Rattle.plain_run.specs.Ending.{StopsPut};
-ghost use Rattle.plain_run.specs.Plain.{IsMarginOf, Alone, SaysEdit, Answers, Carries, PutsEntries};
+ghost use Rattle.plain_run.specs.Plain.{PutsEntries};
+ghost use Rattle.plain_run.specs.Carried.{IsNewestMargin, Alone, SaysEdit, Answers, Carries};
 
 use crate::analysis::margin_of;
 use km_base::Memory;
@@ -45,7 +46,7 @@ pub fn put_entry<O: Sink>(alloc: Global, entry: Entry, output: &mut O) -> Result
 
 // The margin of the newest version.
 fn margin_entry(alloc: Global, versions: &Versions) -> Result<Entry, Memory>
-    ensures margin { IfOk result (λ entry. IsMarginOf versions.now entry) }
+    ensures margin { IfOk result (λ entry. IsNewestMargin versions.now entry) }
     ensures printable { IfOk result (λ entry. IsPrintable entry) }
 {
     let text = versions.snapshot()?;
@@ -57,7 +58,7 @@ fn margin_entry(alloc: Global, versions: &Versions) -> Result<Entry, Memory>
 
 /// Puts the margin of the newest version into the sink.
 pub fn put_margin<O: Sink>(alloc: Global, versions: &Versions, output: &mut O) -> Result<(), Status>
-    ensures whole { OnOk result (PutsEntries (λ entries. (margin : Entry) × IsMarginOf versions.now margin × (entries ≡ margin ∷ [])) (O.written output.old) (O.written output.new)) }
+    ensures whole { OnOk result (PutsEntries (λ entries. (margin : Entry) × IsNewestMargin versions.now margin × (entries ≡ margin ∷ [])) (O.written output.old) (O.written output.new)) }
     ensures cause { StopsPut (O.faults output.old) (O.faults output.new) result }
 {
     let Ok(margin) = margin_entry(alloc, versions) else {

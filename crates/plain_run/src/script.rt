@@ -7,8 +7,9 @@ ghost use Rattle.script_lines.specs.Requests.{whole, requests};
 ghost use Rattle.script_lines.specs.declared.request.Request.{Request};
 ghost use Rattle.plain_run.specs.Ending.{StopsPut};
 ghost use Rattle.plain_run.specs.Runs.{ports};
-ghost use Rattle.plain_run.specs.Plain.{Carries, IsPlain, PutsEntries};
-ghost use Rattle.plain_run.specs.Scripts.{IsScriptRun, StopsFor, HasCarried};
+ghost use Rattle.plain_run.specs.Plain.{IsPlain, PutsEntries};
+ghost use Rattle.plain_run.specs.Carried.{Carries, StopsFor, HasCarried};
+ghost use Rattle.plain_run.specs.Scripts.{IsScriptRun};
 
 use crate::plain::{put_answer, put_answers, put_entry, put_margin};
 use km_base::limits::SCRIPT_BYTES;

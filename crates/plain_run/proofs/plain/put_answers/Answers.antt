@@ -1,5 +1,4 @@
 use Rattle.std.proofs.Common.{refl, ◌∙◌, [], ◌∷◌, ◌++◌}
-use Rattle.std.specs.Prelude.{reverse}
 use Rattle.plain_run.proofs.Carried.{puts_nothing, puts_next, next_waiting}
 use Rattle.plain_run.proofs.plain.put_answers.Goals as goal
 

@@ -1,6 +1,7 @@
 use Rattle.std.proofs.Common.{◌≡◌, ◌++◌, List, reverse, length}
 use Rattle.script_lines.specs.declared.request.Request.{Request}
-use Rattle.plain_run.specs.Plain.{Carries, PutsEntries}
+use Rattle.plain_run.specs.Plain.{PutsEntries}
+use Rattle.plain_run.specs.Carried.{Carries}
 use Rattle.plain_run.proofs.plain.put_answers.Given as goal
 
 abbrev pub invariant-loop-request : goal.invariant-loop-request

@@ -1,8 +1,6 @@
-use Rattle.std.proofs.Common.{refl, subst, sym}
+use Rattle.std.proofs.Common.{refl}
 use Rattle.std.proofs.lemmas.Result.{on_ok_weaker}
 use Rattle.transcript.specs.declared.entry.Entry.TheVariants as entry
-use Rattle.text_versions.specs.declared.versions.ApplyRefusal.TheVariants as refusal
-use Rattle.plain_run.specs.Plain.{SaysEdit, PutsEntries}
 use Rattle.plain_run.proofs.Carried.{puts_refusal}
 use Rattle.plain_run.proofs.plain.put_refusal.Goals as goal
 

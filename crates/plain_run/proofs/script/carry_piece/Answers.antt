@@ -1,4 +1,4 @@
-use Rattle.std.proofs.Common.{◌≡◌, ◌++◌, List, Some, take, length}
+use Rattle.std.proofs.Common.{◌≡◌, ◌++◌, take}
 use Rattle.std.proofs.lemmas.List.{length-take-le}
 use Rattle.script_lines.specs.Requests.{whole}
 use Rattle.plain_run.proofs.Carried.{on_ok_here, if_ok_here}

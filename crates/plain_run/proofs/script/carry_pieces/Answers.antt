@@ -1,9 +1,9 @@
-use Rattle.std.proofs.Common.{◌≡◌, ◌+◌, ◌++◌, ℕ, List, [], Some, length, refl, sym, ap, subst, ◌∙◌, arith}
-use Rattle.std.specs.Prelude.{Result, IfOk, Err}
+use Rattle.std.proofs.Common.{ℕ, [], refl, sym, ap, subst, ◌∙◌, arith}
+use Rattle.std.specs.Prelude.{Err}
 use Rattle.std.proofs.lemmas.Result.{err_from_is_err_and}
 use Rattle.km_base.specs.declared.limits.TheConstants.{SCRIPT_BYTES}
 use Rattle.plain_run.specs.Runs.{ports}
-use Rattle.plain_run.specs.Scripts.{HasCarried, StopsFor}
+use Rattle.plain_run.specs.Carried.{StopsFor}
 use Rattle.plain_run.proofs.Carried.{if_ok_here}
 use Rattle.plain_run.proofs.ScriptRuns.{carried_none, more_carried, stops_behind}
 use Rattle.plain_run.proofs.script.carry_pieces.Goals as goal

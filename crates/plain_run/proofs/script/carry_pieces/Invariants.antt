@@ -1,7 +1,7 @@
 use Rattle.std.proofs.Common.{◌≡◌, ◌+◌, ℕ, List, [], Some, length}
 use Rattle.km_base.specs.declared.limits.TheConstants.{SCRIPT_BYTES}
 use Rattle.plain_run.specs.Runs.{ports}
-use Rattle.plain_run.specs.Scripts.{HasCarried}
+use Rattle.plain_run.specs.Carried.{HasCarried}
 use Rattle.plain_run.proofs.script.carry_pieces.Given as goal
 
 abbrev pub invariant-loop-reader : goal.invariant-loop-reader

@@ -1,4 +1,3 @@
-use Rattle.std.proofs.Common.{◌≡◌, Some}
 use Rattle.std.proofs.lemmas.Result.{on_ok_weaker}
 use Rattle.plain_run.proofs.Carried.{on_ok_here}
 use Rattle.plain_run.proofs.ScriptRuns.{plain_put}
