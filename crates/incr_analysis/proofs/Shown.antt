@@ -14,8 +14,13 @@ use Rattle.kumir_tree.specs.declared.unit.PlacedUnit.{PlacedUnit}
 use Rattle.margins.specs.declared.margin.Mark.{Mark}
 use Rattle.type_check.specs.Placed.{reads_of, units_in}
 use Rattle.type_check.specs.Margin.{program_faults, IsMarginOf, fault_of}
+use Rattle.type_check.specs.Refused.{IsRefusalOf}
+use Rattle.type_check.specs.declared.refusal.CleanRefusal.{CleanRefusal}
+use Rattle.type_check.specs.declared.refusal.CleanRefusal.TheVariants.{Faults, Memory}
 use Rattle.type_check.proofs.First.{units_seen}
+use Rattle.type_check.proofs.OneMargin.{has_one_margin}
 use Rattle.incr_analysis.specs.Full.{IsAnalysis, Full, is_empty, takes_nothing}
+use Rattle.incr_analysis.specs.Answers.{IsRefusedWith}
 
 pub shown_full : (lines : List (List ℕ)) (units : List (ℕ × Known)) (margin : List Mark) → IsAnalysis lines units margin → Full lines margin
 shown_full lines units margin h = (units, h)
@@ -30,6 +35,11 @@ no_marks (m ∷ marks) margin = let found = margin.stands m (0, omega arith, ref
 
 pub without_marks : (lines : List (List ℕ)) (units : List (ℕ × Known)) (marks : List Mark) → IsAnalysis lines units marks → program_faults units ≡ [] → marks ≡ []
 without_marks lines units marks a e = no_marks marks (subst (λ fs. IsMarginOf fs marks) e a.marked)
+
+-- there is one margin of the faults
+pub refused_with : (lines : List (List ℕ)) (units : List (ℕ × Known)) (marks : List Mark) (r : CleanRefusal) → IsAnalysis lines units marks → IsRefusalOf (program_faults units) r → IsRefusedWith marks r
+refused_with lines units marks (Faults shown) a h = let same : shown ≡ marks = has_one_margin (program_faults units) shown marks h.0 a.marked in (same, λ none. h.1 (same ∙ none))
+refused_with lines units marks Memory a h = h
 
 pub main_takes_nothing : (header : Bor Header) (first : Option Head) (empty : Bool) → some_head_behind (Some header) ≡ first → empty ≡ is_empty (map formal_of header.now.params) → empty ≡ takes_nothing first
 main_takes_nothing header first empty e same = same ∙ ap takes_nothing e

@@ -1,8 +1,11 @@
 -- What an analysis answers.
-use Rattle.std.specs.Prelude.{◌≡◌, ◌≤◌, ℕ, ◌+◌, Bool, List, ⊤, Option, Some, None, Result, Ok, Err}
+use Rattle.std.specs.Prelude.{◌≡◌, ◌≢◌, ◌≤◌, ℕ, ◌+◌, Bool, List, [], ⊤, Option, Some, None, Result, Ok, Err}
 use Rattle.km_base.specs.declared.Memory.{Memory}
 use Rattle.kumir_tree.specs.Unit.{Known}
 use Rattle.kumir_tree.specs.declared.unit.PlacedUnit.{PlacedUnit}
+use Rattle.margins.specs.declared.margin.Mark.{Mark}
+use Rattle.type_check.specs.declared.refusal.CleanRefusal.{CleanRefusal}
+use Rattle.type_check.specs.declared.refusal.CleanRefusal.TheVariants as refusal
 use Rattle.algo_parser.specs.declared.spans.LineSpan.{LineSpan}
 use Rattle.algo_parser.specs.Units.{IsSoundRead}
 use Rattle.incr_analysis.specs.Full.{Full}
@@ -48,3 +51,8 @@ pub record IsAnalysisOf (version : ℕ) (text : List (List ℕ)) (a : AnalysedTe
   pub number : a.version ≡ version
   pub same_text : a.text ≡ text
   pub full : Full text a.margin
+
+-- a program is refused with this margin, which has marks; or for want of memory
+abbrev pub IsRefusedWith : List Mark → CleanRefusal → Type 0
+IsRefusedWith margin (refusal.Faults shown) = (shown ≡ margin) × (margin ≢ [])
+IsRefusedWith margin refusal.Memory = ⊤

@@ -3,11 +3,11 @@
 ghost use Rattle.std.specs.Prelude.{◌≡◌, [], IfOk, IfErr, OnOk};
 ghost use Rattle.std.specs.Arc.{arc_value};
 ghost use Rattle.kumir_tree.specs.Units.{placed_of};
-ghost use Rattle.type_check.specs.Margin.{program_faults, first_head};
+ghost use Rattle.type_check.specs.Margin.{first_head};
 ghost use Rattle.type_rules.specs.Headers.{some_head_behind};
 ghost use Rattle.type_check.specs.Placed.{units_in};
-ghost use Rattle.type_check.specs.Refused.{IsRefusalOf};
 ghost use Rattle.incr_analysis.specs.Full.{Full, has_main};
+ghost use Rattle.incr_analysis.specs.Answers.{IsRefusedWith};
 
 use kumir_tree::{Header, PlacedUnit, Units};
 use margins::Margin;
@@ -83,7 +83,7 @@ impl Analysed {
     pub fn clean(&self, alloc: Global) -> Result<Clean, CleanRefusal>
         ensures same { IfOk result (λ clean. units_in clean ≡ units_in self.now.units) }
         ensures without_fault { OnOk result (self.now.margin ≡ []) }
-        ensures refused { IfErr result (λ refusal. IsRefusalOf (program_faults (units_in self.now.units)) refusal) }
+        ensures refused { IfErr result (λ refusal. IsRefusedWith self.now.margin refusal) }
     {
         clean_of(alloc, &self.units)
     }

@@ -1,7 +1,15 @@
-use Rattle.std.proofs.Common.{sym, ◌∙◌, ap}
-use Rattle.std.proofs.lemmas.Result.{on_ok_weaker}
-use Rattle.incr_analysis.proofs.Shown.{without_marks}
+use Rattle.std.proofs.Common.{sym, ◌∙◌, ap, subst}
+use Rattle.std.specs.Result.{IfErr}
+use Rattle.std.proofs.lemmas.Result.{on_ok_weaker, IfErr-weaker}
+use Rattle.kumir_tree.specs.Units.{units_of}
+use Rattle.type_check.specs.Margin.{program_faults}
+use Rattle.type_check.specs.Refused.{IsRefusalOf}
+use Rattle.incr_analysis.specs.Answers.{IsRefusedWith}
+use Rattle.incr_analysis.proofs.Shown.{without_marks, refused_with}
 use Rattle.incr_analysis.proofs.analysed.Analysed.clean.Goals as goal
 
 pub returns-clause-without_fault : goal.returns-clause-without_fault
 returns-clause-without_fault c = on_ok_weaker c.clean_of.result (λ e. sym (ap (λ a. a.margin) c.self.view_is) ∙ without_marks _ _ c.self.inside.margin c.self.invariant.1 e) c.clean_of.ensures.without_fault
+
+pub returns-clause-refused : goal.returns-clause-refused
+returns-clause-refused c = subst (λ m. IfErr c.clean_of.result (λ r. IsRefusedWith m r)) (ap (λ a. a.margin) c.self.view_is) (IfErr-weaker c.clean_of.result (λ r. IsRefusalOf (program_faults (units_of c.self.inside.units)) r) (λ r. IsRefusedWith c.self.inside.margin r) (λ r h. refused_with _ _ c.self.inside.margin r c.self.invariant.1 h) c.clean_of.ensures.refused)
