@@ -5,3 +5,13 @@ pub mod Updates
 pub mod Pens
 pub mod Fitting
 pub mod Onward
+pub mod Grids
+pub mod Turning
+pub mod Pairs
+pub mod Calling
+pub mod Returning
+pub mod Landing
+pub mod Alone
+pub mod Entering
+pub mod Staging
+pub mod Reachings

@@ -1,10 +1,10 @@
 -- A slot that is written.
-use Rattle.std.proofs.Common.{◌≡◌, ℕ, ◌<◌, true, false, List, length, set, get_or, Option, Some, None, refl, sym, ap, ◌∙◌, arith}
+use Rattle.std.proofs.Common.{◌≡◌, ◌≢◌, ℕ, ◌<◌, true, false, List, length, set, get_or, Option, Some, None, refl, sym, ap, ◌∙◌, arith}
 use Rattle.std.specs.Prelude.{slice_get, nat_eq, if◌then◌else◌, unwrap_or}
 use Rattle.std.proofs.lemmas.Bool.Decides.{nat_tests}
 use Rattle.std.proofs.lemmas.List.{get_or-set_same, get_or-set_other}
 use Rattle.std.proofs.lemmas.Option.{unwrap_or-slice_get}
-use Rattle.stack_code.specs.CodeState.{with_slot, no_slots}
+use Rattle.stack_code.specs.CodeState.{Slot, Slots, with_slot, no_slots}
 use Rattle.kumir_machine.specs.declared.held.Cell.TheVariants.{Empty}
 use Rattle.kumir_machine.specs.declared.held.Held.{Held}
 use Rattle.kumir_machine.specs.declared.held.Held.TheVariants as held
@@ -35,3 +35,17 @@ put_is xs i h w = λ k y. at_each xs i h w y k
 
 pub nothing_is : (count : ℕ) (xs : List Held) → AllEmpty count xs → slots_of xs ≡ no_slots
 nothing_is count xs e = λ k y. (as_get xs y ∙ ap slot_of (e.1 y)) k
+
+-- the later of two changes of one slot stands
+pub changed_twice : (s : Slots) (x : ℕ) (a b : Slot) → with_slot (with_slot s x a) x b ≡ with_slot s x b
+changed_twice s x a b = λ k y. at y k
+  where
+    at : (y : ℕ) → with_slot (with_slot s x a) x b y ≡ with_slot s x b y
+    at y = elim (nat_eq y x) as (λ t. (if t then b else (if t then a else s y)) ≡ (if t then b else s y)) [ true ↦ refl | false ↦ refl ]
+
+-- other slots stay as they are
+pub elsewhere : (s : Slots) (x y : ℕ) (c : Slot) → y ≢ x → with_slot s x c y ≡ s y
+elsewhere s x y c other = elim (nat_eq y x) as (λ t. nat_eq y x ≡ t → (if t then c else s y) ≡ s y) [
+  | true ↦ λ e. absurd (other (grind (arith, nat_tests, e)))
+  | false ↦ λ e. refl
+] refl

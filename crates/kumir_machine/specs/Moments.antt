@@ -33,7 +33,7 @@ cell_of (Holds t) = store.Holds (table_map t)
 
 abbrev pub turns_of : Turns → Slot
 turns_of (turns.Left n) = Left n
-turns_of (turns.Numbers z last step) = Numbers z last step
+turns_of (turns.Numbers n) = Numbers n.next n.last n.step
 
 abbrev pub slot_of : Held → Slot
 slot_of (held.Plain c) = Plain (cell_of c)

@@ -8,12 +8,14 @@ ghost use Rattle.kumir_machine.specs.Acting.{Carries};
 ghost use Rattle.kumir_machine.specs.Local.{is_local, FitsIn};
 
 use crate::acted::Acted;
+use crate::loops::{begin_times, begin_turns, next_turn};
 use crate::plain::{
     apply, assert_top, clear, drop_top, jump, jump_on_no, load, negate_top, negate_truth, operate,
     push, store,
 };
 use crate::running::Running;
-use crate::showing::{print_line_feed, print_text, print_top};
+use crate::showing::{ask, print_line_feed, print_text, print_top};
+use crate::tables::{fit, make, probe, put_element, take_element};
 use crate::values::BuiltIn;
 use km_base::Memory;
 use kumir_tree::Op;
@@ -64,18 +66,16 @@ pub fn carry_out(
         Instruction::OutLine => print_line_feed(alloc, running),
         Instruction::Assert => assert_top(running, line),
         Instruction::Quit => Ok(Acted::Over(EndKind::Quit)),
-        Instruction::Ask(_)
-        | Instruction::Elem(_, _)
-        | Instruction::PutElem(_, _)
-        | Instruction::Probe(_, _)
-        | Instruction::Make(_, _, _)
-        | Instruction::Fit(_, _)
-        | Instruction::Step
-        | Instruction::Times(_)
-        | Instruction::Turns(_)
-        | Instruction::Next(_, _, _)
-        | Instruction::Input(_)
-        | Instruction::Call(_, _)
-        | Instruction::Return => unreachable!(),
+        Instruction::Elem(slot, count) => take_element(alloc, running, *slot, *count, line),
+        Instruction::PutElem(slot, count) => put_element(alloc, running, *slot, *count, line),
+        Instruction::Probe(slot, count) => probe(alloc, running, *slot, *count, line),
+        Instruction::Make(slot, kind, count) => make(alloc, running, *slot, *kind, *count, line),
+        Instruction::Fit(slot, count) => fit(alloc, running, *slot, *count, line),
+        Instruction::Times(slot) => begin_times(running, *slot),
+        Instruction::Turns(slot) => begin_turns(running, *slot, line),
+        Instruction::Next(slot, variable, place) => next_turn(running, *slot, *variable, *place),
+        Instruction::Ask(shape) => ask(running, *shape, line),
+        Instruction::Step | Instruction::Input(_) | Instruction::Call(_, _) | Instruction::Return =>
+            unreachable!(),
     }
 }

@@ -1,5 +1,7 @@
 //! What slots hold.
 
+ghost use Rattle.kumir_machine.specs.Loops.{IsNear};
+
 use kumir_values::{Table, Value};
 
 /// What a variable holds.
@@ -10,13 +12,23 @@ pub enum Cell {
     Holds(Table),
 }
 
+/// The numbers of a counted loop.
+#[derive(Clone, Copy)]
+pub struct Numbers {
+    /// That of the next turn; one step past the range of `цел` at most.
+    pub next: i64,
+    pub last: i32,
+    pub step: i32,
+    ghost near: { IsNear next step },
+}
+
 /// How a loop stands.
 #[derive(Clone, Copy)]
 pub enum Turns {
     /// So many turns are left.
     Left(u32),
-    /// The number of the next turn, the last one, and the step.
-    Numbers(i64, i32, i32),
+    /// The numbers of the turns.
+    Numbers(Numbers),
 }
 
 /// What a slot holds.

@@ -1,16 +1,28 @@
-//! Parts of the machine that carries out stack code: what it holds, instructions on operands and slots, jumps and outputs, and how far a run has come (docs/LANGUAGE.md, "Stack code").
+//! The steps of a run of stack code: what is held, all instructions but the Robot's commands, calls and returns, and how far a run has come (docs/LANGUAGE.md, "Stack code").
 #![tactic(auto)]
 
 mod acted;
+mod calls;
 mod carrying;
+mod enter;
+mod going;
+mod grid;
 mod held;
 mod laws;
+mod loops;
 mod operands;
 mod output;
 mod plain;
+mod returns;
 mod running;
 mod showing;
+mod silent;
 mod slots;
+mod stage;
+mod steps;
+mod tables;
+#[cfg(test)]
+mod tests;
 mod values;
 
 pub use acted::Acted;
@@ -24,3 +36,5 @@ pub use operands::Operands;
 pub use running::Running;
 pub use showing::tell;
 pub use slots::Slots;
+pub use stage::{Question, Stage, Stop};
+pub use steps::{Reached, begin_run, run_steps};

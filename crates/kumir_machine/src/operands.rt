@@ -1,11 +1,43 @@
 //! The operands of an algorithm that runs.
-ghost use Rattle.std.specs.Prelude.{◌≡◌, [], ◌∷◌, length, reverse, take, drop, OnOk, IfOk, MatchOption};
-ghost use Rattle.stack_code.specs.CodeState.{top, rest};
+ghost use Rattle.std.specs.Prelude.{◌≡◌, [], ◌∷◌, length, map, reverse, take, drop, OnOk, IfOk, MatchOption};
+ghost use Rattle.stack_code.specs.CodeState.{top, rest, numbers, paired};
+ghost use Rattle.kumir_values.specs.Operations.{number_of};
 
+use crate::values::number_in;
 use km_base::Memory;
-use kumir_values::Value;
+use kumir_values::{Bound, Value};
+use smallvec::SmallVec;
 use std::alloc::{AllocError, Global};
 use std::marker::Model;
+
+/// The numbers of some operands: up to six stand in it and take no memory, as the bounds of three dimensions.
+pub type Numbers = SmallVec<i32, 6>;
+
+/// The numbers of values.
+fn numbers_in(alloc: Global, values: &[Value]) -> Result<Numbers, AllocError>
+    ensures { IfOk result (λ found. found.items ≡ map number_of values.now) }
+{
+    let mut found = SmallVec::new(alloc);
+    for value in values {
+        found.push(number_in(*value))?;
+    }
+    Ok(found)
+}
+
+/// The numbers of values in pairs, as bounds; a last one alone is left out.
+#[tactic(auto, using(crate::proofs::Pairs::one_more_pair, crate::proofs::Pairs::all_pairs))]
+fn bounds_in(alloc: Global, values: &[Value]) -> Result<Vec<Bound>, AllocError>
+    ensures { IfOk result (λ found. found.items ≡ paired (map number_of values.now)) }
+{
+    let mut found = Vec::new(alloc);
+    for pair in 0..values.len() / 2 {
+        found.push(Bound {
+            low: number_in(values[2 * pair]),
+            high: number_in(values[2 * pair + 1]),
+        })?;
+    }
+    Ok(found)
+}
 
 /// The operands. Contracts see them from the top.
 #[derive(Drop)]
@@ -70,6 +102,20 @@ impl Operands {
         ensures { result.now ≡ reverse (take count self.now) }
     {
         &self.values.as_slice()[self.values.len().saturating_sub(count)..]
+    }
+
+    /// The numbers on top, so many or all, in the order in which they were pushed. Up to six take no memory.
+    pub fn last_numbers(&self, alloc: Global, count: usize) -> Result<Numbers, AllocError>
+        ensures { IfOk result (λ found. found.items ≡ numbers count self.now) }
+    {
+        numbers_in(alloc, self.last(count))
+    }
+
+    /// So many numbers on top in pairs, as bounds.
+    pub fn last_bounds(&self, alloc: Global, count: usize) -> Result<Vec<Bound>, AllocError>
+        ensures { IfOk result (λ found. found.items ≡ paired (numbers count self.now)) }
+    {
+        bounds_in(alloc, self.last(count))
     }
 
     /// Takes so many away from the top.

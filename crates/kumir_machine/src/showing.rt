@@ -1,5 +1,5 @@
 //! Instructions that the outside sees.
-ghost use Rattle.std.specs.Prelude.{◌≡◌, ◌<◌, ◌+◌, ◌^◌, List, length, map, IfOk};
+ghost use Rattle.std.specs.Prelude.{◌≡◌, ◌<◌, ◌+◌, ◌^◌, List, length, map, true, IfOk};
 ghost use Rattle.kumir_values.specs.Operations.{number_of};
 ghost use Rattle.kumir_values.specs.Meaning.{usual, pen_command};
 ghost use Rattle.stack_code.specs.Instructions.{acts, numbers_asked};
@@ -8,6 +8,7 @@ ghost use Rattle.stack_code.specs.declared.instruction.Instruction.TheVariants a
 ghost use Rattle.stack_code.specs.declared.instruction.CommandShape.TheVariants as command;
 ghost use Rattle.kumir_machine.specs.Moments.{state_of};
 ghost use Rattle.kumir_machine.specs.Acting.{Carries};
+ghost use Rattle.kumir_machine.specs.Local.{is_local};
 
 use crate::acted::Acted;
 use crate::output::{line_feed, value_text};
@@ -17,6 +18,7 @@ use km_base::Memory;
 use kumir_tree::Chars;
 use kumir_values::Value;
 use performer_kit::{PenCommand, PenShape};
+use stack_code::CommandShape;
 use std::alloc::Global;
 
 /// Prints the popped value.
@@ -94,4 +96,17 @@ pub fn tell(running: &mut Running, shape: PenShape) -> Result<Acted, Memory>
     running.operands.discard(count);
     running.pc += 1;
     Ok(Acted::Told(command))
+}
+
+/// Sends a command that awaits no reply of the Robot.
+pub fn ask(running: &mut Running, shape: CommandShape, line: u32) -> Result<Acted, Memory>
+    requires room { running.old.pc + 1 < 2 ^ 64 }
+    requires local { is_local (code.Ask shape) ≡ true }
+    ensures acts { IfOk result (λ acted. (units : List CodeUnit) → Carries (λ frames. acts usual units (code.Ask shape) line (state_of running.old frames)) acted running.new) }
+    ensures count { length running.new.slots ≡ length running.old.slots }
+{
+    match shape {
+        CommandShape::Pen(shape) => tell(running, shape),
+        CommandShape::Robot(_) => unreachable!(),
+    }
 }

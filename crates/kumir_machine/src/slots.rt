@@ -1,16 +1,17 @@
 //! The slots of an algorithm that runs.
-ghost use Rattle.std.specs.Prelude.{◌≡◌, ◌<◌, length, IfOk};
-ghost use Rattle.stack_code.specs.CodeState.{Plain, with_slot, no_slots};
+ghost use Rattle.std.specs.Prelude.{◌≡◌, ◌<◌, length, IfOk, MatchOption};
+ghost use Rattle.stack_code.specs.CodeState.{Plain, with_slot, no_slots, cell_in};
 ghost use Rattle.kumir_values.specs.Store as store;
-ghost use Rattle.kumir_values.specs.Store.{read};
-ghost use Rattle.stack_code.specs.CodeState.{cell_in};
-ghost use Rattle.kumir_machine.specs.Moments.{cell_of, slot_of, slots_of, AllEmpty};
+ghost use Rattle.kumir_values.specs.Store.{read, with_element};
+ghost use Rattle.kumir_machine.specs.Moments.{cell_of, slot_of, turns_of, slots_of, AllEmpty};
 
-use crate::held::{Cell, Held};
+use crate::grid::put_element;
+use crate::held::{Cell, Held, Turns};
 use km_base::Memory;
 use kumir_values::{RunFault, Value};
 use std::alloc::{AllocError, Global};
 use std::marker::Model;
+use std::mem;
 
 /// The slots.
 #[derive(Drop)]
@@ -80,5 +81,60 @@ impl Slots {
             }
             Some(Held::Loop(_)) | None => Err(RunFault::Unset),
         }
+    }
+
+    /// What the variable of a slot holds, if the slot is there and is no loop's.
+    pub fn cell(&self, slot: u32) -> Option<&Cell>
+        ensures { MatchOption result (cell_in (slots_of self.now slot) ≡ store.Empty) (λ cell. cell_in (slots_of self.now slot) ≡ cell_of cell.now) }
+    {
+        match self.held.get(slot as usize) {
+            Some(Held::Plain(cell)) => Some(cell),
+            Some(Held::Loop(_)) | None => None,
+        }
+    }
+
+    /// How the loop of a slot stands, if it is a loop's.
+    pub fn turns(&self, slot: u32) -> Option<Turns>
+        ensures { MatchOption result (slots_of self.now slot ≡ Plain (cell_in (slots_of self.now slot))) (λ turns. slots_of self.now slot ≡ turns_of turns) }
+    {
+        match self.held.get(slot as usize) {
+            Some(Held::Loop(turns)) => Some(*turns),
+            Some(Held::Plain(_)) | None => None,
+        }
+    }
+
+    /// Takes out what the variable of a slot holds; nothing where the slot is a loop's.
+    pub fn take(&mut self, slot: u32) -> Cell
+        requires { slot < length self.old }
+        ensures cell { cell_of result ≡ cell_in (slots_of self.old slot) }
+        ensures slots { slots_of self.new ≡ with_slot (slots_of self.old) slot (Plain store.Empty) }
+        ensures count { length self.new ≡ length self.old }
+    {
+        match mem::replace(&mut self.held[slot as usize], Held::Plain(Cell::Empty)) {
+            Held::Plain(cell) => cell,
+            Held::Loop(_) => Cell::Empty,
+        }
+    }
+
+    /// A copy of what the variable of a slot holds; nothing where the slot is a loop's.
+    pub fn copy_cell(&self, alloc: Global, slot: u32) -> Result<Cell, Memory>
+        ensures { IfOk result (λ cell. cell_of cell ≡ cell_in (slots_of self.now slot)) }
+    {
+        match self.cell(slot) {
+            Some(Cell::Has(value)) => Ok(Cell::Has(*value)),
+            Some(Cell::Holds(table)) => Ok(Cell::Holds(table.copy(alloc)?)),
+            Some(Cell::Empty) | None => Ok(Cell::Empty),
+        }
+    }
+
+    /// Gives an element of the table in a slot a value, or takes it away.
+    pub fn put_element(&mut self, slot: u32, index: &[i32], value: Option<Value>)
+        requires { slot < length self.old }
+        ensures slots { slots_of self.new ≡ with_slot (slots_of self.old) slot (Plain (with_element (cell_in (slots_of self.old slot)) index.now value)) }
+        ensures count { length self.new ≡ length self.old }
+    {
+        let mut cell = self.take(slot);
+        put_element(&mut cell, index, value);
+        self.put(slot, Held::Plain(cell));
     }
 }

@@ -1,6 +1,6 @@
 //! Operators and built-in algorithms on values.
 ghost use Rattle.std.specs.Prelude.{◌≡◌, ◌∷◌, [], not};
-ghost use Rattle.kumir_values.specs.Operations.{number_of, is_yes, as_value, same_value, below, combined, negated, first_number, second_number, applied};
+ghost use Rattle.kumir_values.specs.Operations.{number_of, turns_of, is_yes, as_value, same_value, below, combined, negated, first_number, second_number, applied};
 ghost use Rattle.kumir_machine.specs.Moments.{built_in_of};
 
 use kumir_tree::Op;
@@ -14,6 +14,13 @@ pub fn number_in(value: Value) -> i32
         Value::Whole(number) => number,
         Value::Truth(_) => 0,
     }
+}
+
+/// How many turns a count asks for.
+pub fn turns_asked(value: Value) -> u32
+    ensures { result ≡ turns_of value }
+{
+    u32::try_from(number_in(value)).unwrap_or(0)
 }
 
 /// Whether a value is `да`.

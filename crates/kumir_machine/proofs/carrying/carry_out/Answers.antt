@@ -20,3 +20,8 @@ pub returns-in-OutLine-clause-acts : goal.returns-in-OutLine-clause-acts
 returns-in-OutLine-clause-acts c =
     subst (λ w. IfOk c.print_line_feed.result (λ acted. (units : List CodeUnit) → Carries (λ frames. acts usual units w c.args.line (state_of c.args.running.now frames)) acted c.print_line_feed.new.running))
     (sym c.in-OutLine.is) c.print_line_feed.ensures.acts
+
+pub returns-in-Ask-clause-acts : goal.returns-in-Ask-clause-acts
+returns-in-Ask-clause-acts c =
+    subst (λ w. IfOk c.ask.result (λ acted. (units : List CodeUnit) → Carries (λ frames. acts usual units w c.args.line (state_of c.args.running.now frames)) acted c.ask.new.running))
+    (sym c.in-Ask.is) c.ask.ensures.acts
