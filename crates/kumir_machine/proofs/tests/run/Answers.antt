@@ -1,5 +1,4 @@
-use Rattle.std.proofs.Common.{ℕ, ◌≡◌, List, Some, sym, subst, ◌∙◌, arith}
-use Rattle.stack_code.specs.declared.unit.CodeUnit.{CodeUnit}
+use Rattle.std.proofs.Common.{sym, subst, ◌∙◌, arith}
 use Rattle.kumir_machine.specs.Frames.{AllValid}
 use Rattle.kumir_machine.proofs.tests.run.Goals as goal
 
