@@ -1,15 +1,3 @@
-pub mod Moments
-pub mod Acting
-pub mod Progress
-pub mod Local
-pub mod Laws
-pub mod Carried
-pub mod Loops
-pub mod Grids
-pub mod Calls
-pub mod Returns
-pub mod Frames
-pub mod Silent
+pub mod Course
+pub mod Going
 pub mod Standing
-pub mod Stages
-pub mod Reaching

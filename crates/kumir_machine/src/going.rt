@@ -1,217 +1,175 @@
-//! Instructions until the run stops: inputs are taken, and algorithms return.
-ghost use Rattle.std.specs.Prelude.{◌≡◌, ◌<◌, ◌+◌, ◌^◌, slice_get, false, Some, IfOk, IfNone, IfSome, OnOk};
-ghost use Rattle.kumir_values.specs.Runs.{input_as};
-ghost use Rattle.stack_code.specs.Instructions.{unit_at};
-ghost use Rattle.stack_code.specs.declared.instruction.Instruction.TheVariants as code;
-ghost use Rattle.kumir_machine.specs.Local.{is_local};
-ghost use Rattle.kumir_machine.specs.Frames.{line_of, AllValid, IsEntered};
-ghost use Rattle.kumir_machine.specs.Silent.{Stands};
-ghost use Rattle.kumir_machine.specs.Standing.{IsStandingCommand, IsStanding, IsStandingAt, IsLineAt, with_input};
-ghost use Rattle.kumir_machine.specs.Stages.{moment_of, IsStage, Stops, Turns, StaysStage, as_stop, size_of};
+//! How a machine goes on.
+ghost use Rattle.std.specs.Prelude.{◌≡◌, ◌≤◌};
+ghost use Rattle.machine_steps.specs.Frames.{AllValid};
+ghost use Rattle.machine_steps.specs.Stages.{moment_of, IsStage, Asks};
+ghost use Rattle.kumir_machine.specs.Going.{phase_at, answer_at, phase_after, answer_after, Goes, AfterReply, Moves, IsAt};
 
-use crate::acted::Acted;
-use crate::enter::leave;
-use crate::running::Running;
-use crate::silent::{line_at, run_alone};
-use crate::stage::{Question, Stage, Stop};
+use crate::answer::Advanced;
 use km_base::Memory;
-use kumir_tree::Kind;
-use kumir_values::{EndKind, RunFault, Value};
-use stack_code::{CodeLine, CodeUnit, CommandShape, Instruction};
-use std::alloc::{AllocError, Global};
+use kumir_values::EndKind;
+use machine_steps::{Question, Reached, Stage, run_steps, take_reply};
+use performer_kit::{Command, PenCommand, Reply};
+use stack_code::CodeUnit;
+use std::alloc::Global;
 
-/// What stands where an algorithm runs, and concerns more than it alone.
+/// What a machine is at between two calls.
 #[derive(Clone, Copy)]
-pub enum Standing {
-    Step,
-    Asks(Question),
-    Input(Kind, u32),
-    Return(u32),
-    Call,
+pub enum Phase {
+    /// The run goes on.
+    Ready,
+    /// The Robot's reply is owed.
+    OwesRobot(Question),
+    /// The Robot's reply is there and was not carried out.
+    Replied(Question, Reply),
+    /// The Draughtsman's reply is owed.
+    OwesPen(PenCommand),
+    /// The run is over.
+    Over(EndKind),
+    /// Memory was wanted.
+    Failed,
 }
 
-/// A command of the Robot.
-fn standing_command(shape: CommandShape, line: u32) -> Standing
-    requires { is_local (code.Ask shape) ≡ false }
-    ensures { IsStandingCommand shape line result }
+/// A run that goes on.
+#[derive(Drop)]
+pub struct Going {
+    pub stage: Stage,
+    /// How many steps were taken.
+    pub steps: u32,
+    pub phase: Phase,
+}
+
+/// What a machine is at, and what it answers.
+#[derive(Drop)]
+struct Turn {
+    phase: Phase,
+    answer: Advanced,
+}
+
+/// What is answered where a run came to something.
+fn turn_at(reached: Reached) -> Turn
+    ensures phase { result.phase ≡ phase_at reached }
+    ensures answer { result.answer ≡ answer_at reached }
 {
-    match shape {
-        CommandShape::Robot(command) => Standing::Asks(Question { command, line }),
-        CommandShape::Pen(_) => unreachable!(),
+    match reached {
+        Reached::Printed(text) => Turn {
+            phase: Phase::Ready,
+            answer: Advanced::Out(text),
+        },
+        Reached::Told(command) => Turn {
+            phase: Phase::OwesPen(command),
+            answer: Advanced::Command(Command::Pen(command)),
+        },
+        Reached::Asks(question) => Turn {
+            phase: Phase::OwesRobot(question),
+            answer: Advanced::Command(Command::Robot(question.command)),
+        },
+        Reached::Over(end) => Turn {
+            phase: Phase::Over(end),
+            answer: Advanced::Ended(end),
+        },
+        Reached::Paused => Turn {
+            phase: Phase::Ready,
+            answer: Advanced::Paused,
+        },
+        Reached::Spent => Turn {
+            phase: Phase::Over(EndKind::Steps),
+            answer: Advanced::Ended(EndKind::Steps),
+        },
     }
 }
 
-/// What an instruction is that concerns more than the algorithm alone.
-fn what_stands(line: &CodeLine) -> Standing
-    requires { is_local line.now.what ≡ false }
-    ensures { IsStanding line.now result }
+/// What is answered where a run came to something or memory was wanted.
+fn turn_after(came: Result<Reached, Memory>) -> Turn
+    ensures phase { result.phase ≡ phase_after came }
+    ensures answer { result.answer ≡ answer_after came }
 {
-    match &line.what {
-        Instruction::Step => Standing::Step,
-        Instruction::Ask(shape) => standing_command(*shape, line.line),
-        Instruction::Input(kind) => Standing::Input(*kind, line.line),
-        Instruction::Return => Standing::Return(line.line),
-        Instruction::Call(_, _) => Standing::Call,
-        _ => unreachable!(),
+    match came {
+        Ok(reached) => turn_at(reached),
+        Err(Memory) => Turn {
+            phase: Phase::Failed,
+            answer: Advanced::Memory,
+        },
     }
 }
 
-/// What stands where an algorithm runs.
-fn standing_in(units: &[CodeUnit], running: &Running) -> Standing
-    requires entered { IsEntered units.now running.now }
-    requires stands { Stands (unit_at units.now running.now.unit) running.now.pc }
-    ensures standing { IsStandingAt (line_of units.now running.now running.now.pc) result }
-    ensures room { running.now.pc + 1 < 2 ^ 64 }
-{
-    let unit = &units[running.unit as usize];
-    match line_at(unit.body.as_slice(), running.pc) {
-        Some(line) => what_stands(line),
-        None => unreachable!(),
-    }
-}
-
-/// An input as a value of a kind.
-fn value_as(kind: Kind, value: Value) -> Result<Value, RunFault>
-    ensures { result ≡ input_as kind value }
-{
-    match (kind, value) {
-        (Kind::Whole, Value::Whole(_)) | (Kind::Truth, Value::Truth(_)) => Ok(value),
-        (Kind::Whole, Value::Truth(_)) | (Kind::Truth, Value::Whole(_)) => Err(RunFault::InputType),
-    }
-}
-
-/// The next input, if one is left.
-fn next_input(stage: &Stage) -> Option<Value>
-    ensures value { result ≡ slice_get stage.now.inputs stage.now.taken }
-    ensures room { IfSome result (λ value. stage.now.taken + 1 < 2 ^ 64) }
-{
-    stage.inputs.as_slice().get(stage.taken).copied()
-}
-
-/// Takes the next input.
-fn take_input(stage: &mut Stage, value: Value) -> Result<(), AllocError>
-    requires place { stage.old.running.pc + 1 < 2 ^ 64 }
-    requires left { stage.old.taken + 1 < 2 ^ 64 }
-    ensures taken { OnOk result (stage.new ≡ with_input stage.old value) }
-    ensures inputs { stage.new.inputs ≡ stage.old.inputs }
-{
-    stage.running.operands.push(value)?;
-    stage.running.pc += 1;
-    stage.taken += 1;
-    Ok(())
-}
-
-/// Pushes the next input of a kind, or the run is over.
-fn input(
-    units: &[CodeUnit],
-    stage: &mut Stage,
-    kind: Kind,
-    line: u32,
-) -> Result<Option<Stop>, Memory>
-    requires valid { AllValid units.now }
-    requires stage { IsStage units.now stage.old }
-    requires there { IsLineAt units.now stage.old.running (code.Input kind) line }
-    requires room { stage.old.running.pc + 1 < 2 ^ 64 }
-    ensures turns { IfOk result (λ stop. Turns units.now (moment_of units.now stage.old) stop (moment_of units.now stage.new)) }
-    ensures stage { IfOk result (λ stop. StaysStage units.now stop stage.new) }
-    ensures fewer { IfOk result (λ stop. IfNone stop (size_of stage.new < size_of stage.old)) }
-    ensures inputs { stage.new.inputs ≡ stage.old.inputs }
-{
-    let Some(value) = next_input(stage) else {
-        return Ok(Some(Stop::Over(EndKind::Fault {
-            line,
-            fault: RunFault::NoInput,
-        })));
-    };
-    match value_as(kind, value) {
-        Ok(value) => {
-            take_input(stage, value)?;
-            Ok(None)
-        }
-        Err(fault) => Ok(Some(Stop::Over(EndKind::Fault { line, fault }))),
-    }
-}
-
-/// An end as a stop.
-fn stop_at(end: Option<EndKind>) -> Option<Stop>
-    ensures { result ≡ as_stop end }
-{
-    match end {
-        Some(end) => Some(Stop::Over(end)),
-        None => None,
-    }
-}
-
-/// Returns from the algorithm that runs.
-fn come_back(
+/// Takes steps, and answers what they led to.
+fn go_on(
     alloc: Global,
     units: &[CodeUnit],
-    stage: &mut Stage,
-    line: u32,
-) -> Result<Option<Stop>, Memory>
+    going: &mut Going,
+    budget: u32,
+    most: u32,
+) -> Advanced
     requires valid { AllValid units.now }
-    requires stage { IsStage units.now stage.old }
-    requires there { IsLineAt units.now stage.old.running code.Return line }
-    ensures turns { IfOk result (λ stop. Turns units.now (moment_of units.now stage.old) stop (moment_of units.now stage.new)) }
-    ensures stage { IfOk result (λ stop. StaysStage units.now stop stage.new) }
-    ensures fewer { IfOk result (λ stop. IfNone stop (size_of stage.new < size_of stage.old)) }
-    ensures inputs { stage.new.inputs ≡ stage.old.inputs }
+    requires stage { IsStage units.now going.old.stage }
+    requires within { going.old.steps ≤ budget }
+    ensures goes { Goes units.now budget most (moment_of units.now going.old.stage) going.old.steps result going.new }
+    ensures inputs { going.new.stage.inputs ≡ going.old.stage.inputs }
 {
-    let end = leave(alloc, units, &mut stage.running, &mut stage.waiting, line)?;
-    Ok(stop_at(end))
+    let came = run_steps(
+        alloc,
+        units,
+        &mut going.stage,
+        &mut going.steps,
+        budget,
+        most,
+    );
+    let turn = turn_after(came);
+    going.phase = turn.phase;
+    turn.answer
 }
 
-/// What the instruction does that concerns more than the algorithm alone.
-fn stand(alloc: Global, units: &[CodeUnit], stage: &mut Stage) -> Result<Option<Stop>, Memory>
+/// Carries the Robot's reply out, and goes on.
+fn go_on_behind(
+    alloc: Global,
+    units: &[CodeUnit],
+    going: &mut Going,
+    question: Question,
+    reply: Reply,
+    budget: u32,
+    most: u32,
+) -> Advanced
     requires valid { AllValid units.now }
-    requires stage { IsStage units.now stage.old }
-    requires stands { Stands (unit_at units.now stage.old.running.unit) stage.old.running.pc }
-    ensures turns { IfOk result (λ stop. Turns units.now (moment_of units.now stage.old) stop (moment_of units.now stage.new)) }
-    ensures stage { IfOk result (λ stop. StaysStage units.now stop stage.new) }
-    ensures fewer { IfOk result (λ stop. IfNone stop (size_of stage.new < size_of stage.old)) }
-    ensures inputs { stage.new.inputs ≡ stage.old.inputs }
+    requires stage { IsStage units.now going.old.stage }
+    requires asks { Asks units.now question (moment_of units.now going.old.stage) }
+    requires within { going.old.steps ≤ budget }
+    ensures goes { AfterReply units.now budget most going.old question reply result going.new }
+    ensures inputs { going.new.stage.inputs ≡ going.old.stage.inputs }
 {
-    match standing_in(units, &stage.running) {
-        Standing::Step => Ok(Some(Stop::Step)),
-        Standing::Asks(question) => Ok(Some(Stop::Asks(question))),
-        Standing::Input(kind, line) => input(units, stage, kind, line),
-        Standing::Return(line) => come_back(alloc, units, stage, line),
-        Standing::Call => unreachable!(),
+    match take_reply(units, &mut going.stage, question, reply) {
+        Ok(None) => go_on(alloc, units, going, budget, most),
+        Ok(Some(end)) => {
+            going.phase = Phase::Over(end);
+            Advanced::Ended(end)
+        }
+        Err(Memory) => {
+            going.phase = Phase::Failed;
+            Advanced::Memory
+        }
     }
 }
 
-/// Instructions of one algorithm, and what it stands at then.
-fn turn(alloc: Global, units: &[CodeUnit], stage: &mut Stage) -> Result<Option<Stop>, Memory>
+/// What is answered next.
+pub fn move_on(
+    alloc: Global,
+    units: &[CodeUnit],
+    going: &mut Going,
+    budget: u32,
+    most: u32,
+) -> Advanced
     requires valid { AllValid units.now }
-    requires stage { IsStage units.now stage.old }
-    ensures turns { IfOk result (λ stop. Turns units.now (moment_of units.now stage.old) stop (moment_of units.now stage.new)) }
-    ensures stage { IfOk result (λ stop. StaysStage units.now stop stage.new) }
-    ensures fewer { IfOk result (λ stop. IfNone stop (size_of stage.new < size_of stage.old)) }
-    ensures inputs { stage.new.inputs ≡ stage.old.inputs }
+    requires stands { IsAt units.now going.old.phase going.old.stage }
+    requires within { going.old.steps ≤ budget }
+    ensures moves { Moves units.now budget most going.old.phase going.old result going.new }
+    ensures inputs { going.new.stage.inputs ≡ going.old.stage.inputs }
 {
-    let unit = &units[stage.running.unit as usize];
-    match run_alone(alloc, unit, &mut stage.running)? {
-        Acted::Moved => {
-            let stop = stand(alloc, units, stage)?;
-            Ok(stop)
+    match going.phase {
+        Phase::Ready => go_on(alloc, units, going, budget, most),
+        Phase::OwesRobot(_) | Phase::OwesPen(_) => Advanced::AwaitReply,
+        Phase::Replied(question, reply) => {
+            go_on_behind(alloc, units, going, question, reply, budget, most)
         }
-        Acted::Printed(text) => Ok(Some(Stop::Printed(text))),
-        Acted::Told(command) => Ok(Some(Stop::Told(command))),
-        Acted::Over(end) => Ok(Some(Stop::Over(end))),
-    }
-}
-
-/// Goes on until the run stops.
-pub fn run_on(alloc: Global, units: &[CodeUnit], stage: &mut Stage) -> Result<Stop, Memory>
-    requires valid { AllValid units.now }
-    requires stage { IsStage units.now stage.old }
-    ensures stops { IfOk result (λ stop. Stops units.now (moment_of units.now stage.old) stop (moment_of units.now stage.new)) }
-    ensures stage { IfOk result (λ stop. StaysStage units.now (Some stop) stage.new) }
-    ensures inputs { stage.new.inputs ≡ stage.old.inputs }
-{
-    loop {
-        if let Some(stop) = turn(alloc, units, stage)? {
-            return Ok(stop);
-        }
+        Phase::Over(end) => Advanced::Ended(end),
+        Phase::Failed => Advanced::Memory,
     }
 }

@@ -1,0 +1,510 @@
+-- One call of a machine.
+use Rattle.std.proofs.Common.{◌≡◌, ℕ, ◌+◌, ◌-◌, ◌≤◌, ◌<◌, Bool, true, false, List, [], ◌∷◌, ◌++◌, Option, Some, None, Result, Ok, Err, refl, sym, ap, ◌∙◌, subst, arith, append_assoc, append-nil}
+use Rattle.std.specs.Prelude.{IfOk, IfErr, nat_le, if◌then◌else◌}
+use Rattle.std.proofs.lemmas.Bool.Decides.{nat_tests}
+use Rattle.km_base.specs.declared.Memory.{Memory}
+use Rattle.performer_kit.specs.declared.commands.PenCommand.{PenCommand}
+use Rattle.performer_kit.specs.declared.commands.Command.{Command}
+use Rattle.performer_kit.specs.declared.commands.Command.TheVariants.{Robot, Pen}
+use Rattle.performer_kit.specs.declared.commands.Reply.{Reply}
+use Rattle.kumir_values.specs.declared.run_end.EndKind.{EndKind}
+use Rattle.kumir_values.specs.declared.run_end.EndKind.TheVariants as end_kind
+use Rattle.kumir_values.specs.Runs.{Act, Printed, Sent, RunState, Trace, end_of}
+use Rattle.kumir_values.specs.Runs as state
+use Rattle.kumir_values.specs.Runs.{only}
+use Rattle.kumir_values.specs.Meaning.{usual}
+use Rattle.stack_code.specs.CodeRuns.{exec, start, CodeRun, Begins}
+use Rattle.stack_code.specs.declared.unit.CodeUnit.{CodeUnit}
+use Rattle.stack_code.specs.Validity.{ValidCode}
+use Rattle.machine_steps.specs.declared.stage.Stage.{Stage}
+use Rattle.machine_steps.specs.declared.stage.Question.{Question}
+use Rattle.machine_steps.specs.declared.steps.Reached.{Reached}
+use Rattle.machine_steps.specs.declared.steps.Reached.TheVariants as reached
+use Rattle.machine_steps.specs.Progress.{Moment, at, Comes}
+use Rattle.machine_steps.specs.Stages.{moment_of, IsStage, NeedsStep}
+use Rattle.machine_steps.specs.Reaching.{Reaches, ComesSome, IsStageAt, StepsIn}
+use Rattle.machine_steps.specs.Replying.{Answers}
+use Rattle.machine_steps.proofs.Coming.{comes_both}
+use Rattle.kumir_machine.specs.declared.answer.Advanced.{Advanced}
+use Rattle.kumir_machine.specs.declared.answer.Advanced.TheVariants as answer
+use Rattle.kumir_machine.specs.declared.going.Phase.{Phase}
+use Rattle.kumir_machine.specs.declared.going.Phase.TheVariants as phase
+use Rattle.kumir_machine.specs.declared.going.Going.{Going}
+use Rattle.kumir_machine.specs.Course.{Stands, Free, Owes, Over, Failed, Course, acts_in, RunsTo, so_far, HasBegun, IsWhole, HasEnded, IsLawful, after, advanced, Stays, most_within, ComesNext, IsNext}
+use Rattle.kumir_machine.specs.Going.{phase_after, answer_after, Goes, AfterReply, Behind, AtWall, Wanted, Moves}
+use Rattle.kumir_machine.specs.Standing.{stands_of, course_of, HasCome, IsAsking, HasReply, Holds, IsMachine}
+use Rattle.kumir_machine.proofs.Courses.{acts_joined, quiet, begins_by, runs_by, asked_only, one_course, some_begun, run_from, runs_only, ends_only, goes_only, needs_only, spent_only, replied_begun, lawful}
+
+-- ---- where a call goes on
+
+-- the run came to this moment
+record From (c : Course) (a : Moment) : Type 0 where
+  entry : ℕ
+  is : c.code.entry ≡ Some entry
+  comes : Comes c.code.units (at (start entry) c.inputs) c.steps c.replies (acts_in c.answers) a
+
+from_come : (c : Course) (s : Stage) → HasCome c c.replies (acts_in c.answers) s → From c (moment_of c.code.units s)
+from_come c s h = record { entry = h.entry; is = h.is; comes = h.comes }
+
+no_more : (n : ℕ) → n + 0 ≡ n
+no_more n = omega arith
+
+from_reply : (c : Course) (q : Question) (r : Reply) (s : Stage) (a : Moment) → HasReply c q r s → Answers c.code.units (moment_of c.code.units s) q r None a → From c a
+from_reply c q r s a h on =
+    let come = h.asking.come in
+    let origin = at (start come.entry) c.inputs in
+    record {
+      entry = come.entry;
+      is = come.is;
+      comes =
+        subst (λ k. Comes c.code.units origin k c.replies (acts_in c.answers) a) (no_more c.steps)
+        (subst (λ l. Comes c.code.units origin (c.steps + 0) l (acts_in c.answers) a) (sym h.replies)
+        (subst (λ l. Comes c.code.units origin (c.steps + 0) (h.given ++ r ∷ []) l a) (sym h.asking.acts)
+        (comes_both c.code.units origin (moment_of c.code.units s) a c.steps 0 h.given (r ∷ []) h.asking.before (Sent (Robot q.command) ∷ []) come.comes on)));
+    }
+
+steps_left : (taken n : ℕ) → taken ≤ n → taken + (n - taken) ≡ n
+steps_left taken n le = omega (arith, le)
+
+onward : (c : Course) (a b : Moment) (n : ℕ) (x : List Act) (f : From c a) → c.steps ≤ n → Comes c.code.units a (n - c.steps) [] x b
+    → Comes c.code.units (at (start f.entry) c.inputs) n c.replies (acts_in c.answers ++ x) b
+onward c a b n x f le h =
+    let origin = at (start f.entry) c.inputs in
+    subst (λ k. Comes c.code.units origin k c.replies (acts_in c.answers ++ x) b) (steps_left c.steps n le)
+    (subst (λ l. Comes c.code.units origin (c.steps + (n - c.steps)) l (acts_in c.answers ++ x) b) (append-nil c.replies)
+    (comes_both c.code.units origin a b c.steps (n - c.steps) c.replies [] (acts_in c.answers) x f.comes h))
+
+-- the same, for the course with the answer
+reached_so : (c : Course) (a b : Moment) (n : ℕ) (r : Advanced) (x : List Act) (f : From c a) → acts_in (r ∷ []) ≡ x → c.steps ≤ n → Comes c.code.units a (n - c.steps) [] x b
+    → Comes c.code.units (at (start f.entry) c.inputs) n c.replies (acts_in (c.answers ++ r ∷ [])) b
+reached_so c a b n r x f e le h =
+    subst (λ acts. Comes c.code.units (at (start f.entry) c.inputs) n c.replies acts b) (sym (acts_joined c.answers (r ∷ []) ∙ ap (λ l. acts_in c.answers ++ l) e)) (onward c a b n x f le h)
+
+come_so : (c : Course) (a : Moment) (s : Stage) (n : ℕ) (r : Advanced) (x : List Act) (f : From c a) → acts_in (r ∷ []) ≡ x → c.steps ≤ n → Comes c.code.units a (n - c.steps) [] x (moment_of c.code.units s)
+    → IsStage c.code.units s → HasCome (advanced c r n) c.replies (acts_in (advanced c r n).answers) s
+come_so c a s n r x f e le h stage = record { entry = f.entry; is = f.is; comes = reached_so c a (moment_of c.code.units s) n r x f e le h; stage = stage }
+
+-- what a call reached
+record Came (c : Course) (a : Moment) (s : Stage) (n most : ℕ) (came : Result Reached Memory) : Type 0 where
+  reaches : IfOk came (λ r. Reaches c.code.units a (n - c.steps) r (moment_of c.code.units s))
+  stage : IfOk came (λ r. IsStageAt c.code.units r s)
+  taken : IfOk came (λ r. StepsIn c.steps n c.budget most r)
+  refused : IfErr came (λ m. ComesSome c.code.units a (n - c.steps))
+  rise : c.steps ≤ n
+
+holds_after : (c : Course) (a : Moment) (s : Stage) (n most : ℕ) (came : Result Reached Memory) → From c a → Came c a s n most came → Holds (advanced c (answer_after came) n) (phase_after came) s
+holds_after c a s n most (Ok (reached.Printed t)) f h = come_so c a s n (answer.Out t) (Printed t ∷ []) f refl h.rise h.reaches h.stage
+holds_after c a s n most (Ok (reached.Told p)) f h = come_so c a s n (answer.Command (Pen p)) (Sent (Pen p) ∷ []) f refl h.rise h.reaches h.stage
+holds_after c a s n most (Ok (reached.Asks q)) f h = record {
+  before = acts_in c.answers;
+  acts = acts_joined c.answers (answer.Command (Robot q.command) ∷ []);
+  come = record {
+    entry = f.entry;
+    is = f.is;
+    comes = subst (λ acts. Comes c.code.units (at (start f.entry) c.inputs) n c.replies acts (moment_of c.code.units s)) (append-nil (acts_in c.answers)) (onward c a (moment_of c.code.units s) n [] f h.rise h.reaches.0);
+    stage = h.stage;
+  };
+  asks = h.reaches.1;
+}
+holds_after c a s n most (Ok (reached.Over e)) f h =
+    let m = h.reaches.0 in
+    let p = reached_so c a m n (answer.Ended e) [] f refl h.rise h.reaches.2 in
+    (some_begun (advanced c (answer.Ended e) n) f.entry m f.is p, ends_only (advanced c (answer.Ended e) n) f.entry m h.reaches.1 e f.is p h.reaches.3 h.reaches.4)
+holds_after c a s n most (Ok reached.Paused) f h = come_so c a s n answer.Paused [] f refl h.rise h.reaches.0 h.stage
+holds_after c a s n most (Ok reached.Spent) f h =
+    let m = moment_of c.code.units s in
+    let p = reached_so c a m n (answer.Ended end_kind.Steps) [] f refl h.rise h.reaches.0 in
+    (some_begun (advanced c (answer.Ended end_kind.Steps) n) f.entry m f.is p, spent_only (advanced c (answer.Ended end_kind.Steps) n) f.entry m f.is p (h.taken.spent refl) h.reaches.1)
+holds_after c a s n most (Err w) f h = some_begun (advanced c answer.Memory n) f.entry h.refused.0 f.is (reached_so c a h.refused.0 n answer.Memory [] f refl h.rise h.refused.1)
+
+stands_after : (came : Result Reached Memory) → stands_of (phase_after came) ≡ after (answer_after came) Free
+stands_after (Ok (reached.Printed t)) = refl
+stands_after (Ok (reached.Told p)) = refl
+stands_after (Ok (reached.Asks q)) = refl
+stands_after (Ok (reached.Over e)) = refl
+stands_after (Ok reached.Paused) = refl
+stands_after (Ok reached.Spent) = refl
+stands_after (Err w) = refl
+
+no_await : (came : Result Reached Memory) → answer_after came ≡ answer.AwaitReply → ⊥
+no_await (Ok (reached.Printed t)) e = let wrong : ⊥ = cc in wrong
+no_await (Ok (reached.Told p)) e = let wrong : ⊥ = cc in wrong
+no_await (Ok (reached.Asks q)) e = let wrong : ⊥ = cc in wrong
+no_await (Ok (reached.Over e1)) e = let wrong : ⊥ = cc in wrong
+no_await (Ok reached.Paused) e = let wrong : ⊥ = cc in wrong
+no_await (Ok reached.Spent) e = let wrong : ⊥ = cc in wrong
+no_await (Err w) e = let wrong : ⊥ = cc in wrong
+
+-- ---- what comes next
+
+below_both : (b : Bool) (x y n : ℕ) → n ≤ x → n ≤ y → n ≤ (if b then x else y)
+below_both true x y n p q = p
+below_both false x y n p q = q
+
+within_most : (c : Course) (n most : ℕ) → n ≤ c.steps + most → n ≤ c.budget → n ≤ most_within c most
+within_most c n most few within = below_both (nat_le (c.steps + most) c.budget) (c.steps + most) c.budget n few within
+
+least : (b : Bool) (x y : ℕ) → nat_le x y ≡ b → ((if b then x else y) ≤ x) × ((if b then x else y) ≤ y)
+least true x y e = (let le : x ≤ x = omega arith in le, grind (arith, nat_tests, e))
+least false x y e = (grind (arith, nat_tests, e), let le : y ≤ y = omega arith in le)
+
+most_few : (c : Course) (most : ℕ) → (most_within c most ≤ c.steps + most) × (most_within c most ≤ c.budget)
+most_few c most = least (nat_le (c.steps + most) c.budget) (c.steps + most) c.budget refl
+
+first_act : (acts more : List Act) (a : Act) (t : Trace) → t.acts ≡ (acts ++ a ∷ []) ++ more → t.acts ≡ acts ++ a ∷ more
+first_act acts more a t e = e ∙ append_assoc acts (a ∷ []) more
+
+act_next : (c : Course) (a b : Moment) (n k : ℕ) (x : Act) (f : From c a) → c.steps ≤ n → n ≤ k → Comes c.code.units a (n - c.steps) [] (x ∷ []) b → (t : Trace) → RunsTo c k t → (more : List Act) × (t.acts ≡ acts_in c.answers ++ x ∷ more)
+act_next c a b n k x f rise le h t r =
+    let begun = begins_by c.code.units f.entry n k c.inputs c.replies (acts_in c.answers ++ x ∷ []) b (onward c a b n (x ∷ []) f rise h) le t (run_from c f.entry k t f.is r) in
+    (begun.0, first_act (acts_in c.answers) begun.0 x t begun.1)
+
+-- the run without the answer, from a later moment on
+quiet_run : (c : Course) (a b : Moment) (n k j : ℕ) (x : List Act) (e : RunState) (f : From c a) → c.steps ≤ n → n ≤ k → Comes c.code.units a (n - c.steps) [] [] b
+    → exec usual c.code.units j b.state (k - n) b.inputs [] ≡ Some (record { acts = x; state = e }) → RunsTo c k (record { acts = acts_in c.answers ++ x; state = e })
+quiet_run c a b n k j x e f rise le h ends = record {
+  entry = f.entry;
+  is = f.is;
+  run =
+    runs_by c.code.units f.entry n k j c.inputs c.replies (acts_in c.answers) x b e
+    (subst (λ acts. Comes c.code.units (at (start f.entry) c.inputs) n c.replies acts b) (append-nil (acts_in c.answers)) (onward c a b n [] f rise h)) le ends;
+}
+
+same_acts : (c : Course) (k : ℕ) (e : RunState) (t : Trace) → RunsTo c k (record { acts = acts_in c.answers ++ []; state = e }) → RunsTo c k t → t ≡ so_far c e
+same_acts c k e t q r = one_course c k t _ r q ∙ ap (λ acts. record { acts = acts; state = e }) (append-nil (acts_in c.answers))
+
+nothing_left : (m n : ℕ) → n ≡ m → n - m ≡ 0
+nothing_left m n e = omega (arith, e)
+
+going_next : (c : Course) (a b : Moment) (n k : ℕ) (f : From c a) → c.steps ≤ n → k ≡ n → Comes c.code.units a (n - c.steps) [] [] b → NeedsStep c.code.units b → (t : Trace) → RunsTo c k t → t ≡ so_far c state.Going
+going_next c a b n k f rise e h needs t r =
+    let le : n ≤ k = omega (arith, e) in
+    same_acts c k state.Going t (quiet_run c a b n k 1 [] state.Going f rise le h (ap (λ l. exec usual c.code.units 1 b.state l b.inputs []) (nothing_left n k e) ∙ needs_only c.code.units b needs)) r
+
+paused_there : (c : Course) (n most : ℕ) → n ≡ c.steps + most → n < c.budget → most_within c most ≡ n
+paused_there c n most e lt =
+    let few = (most_few c most).0 in
+    let there = within_most c n most (let le : n ≤ c.steps + most = omega (arith, e) in le) (let le : n ≤ c.budget = omega (arith, lt) in le) in
+    omega (arith, e, few, there)
+
+spent_there : (c : Course) (n most : ℕ) → n ≡ c.budget → n ≤ c.steps + most → most_within c most ≡ n
+spent_there c n most e few =
+    let all = (most_few c most).1 in
+    let there = within_most c n most few (let le : n ≤ c.budget = omega (arith, e) in le) in
+    omega (arith, e, all, there)
+
+comes_next : (c : Course) (a : Moment) (s : Stage) (n most : ℕ) (came : Result Reached Memory) → From c a → Came c a s n most came
+    → (t : Trace) → RunsTo c (most_within c most) t → ComesNext c (most_within c most) t (answer_after came)
+comes_next c a s n most (Ok (reached.Printed text)) f h t r = act_next c a (moment_of c.code.units s) n (most_within c most) (Printed text) f h.rise (within_most c n most h.taken.few h.taken.within) h.reaches t r
+comes_next c a s n most (Ok (reached.Told p)) f h t r = act_next c a (moment_of c.code.units s) n (most_within c most) (Sent (Pen p)) f h.rise (within_most c n most h.taken.few h.taken.within) h.reaches t r
+comes_next c a s n most (Ok (reached.Asks q)) f h t r =
+    let b = moment_of c.code.units s in
+    let k = most_within c most in
+    let run = quiet_run c a b n k 1 (Sent (Robot q.command) ∷ []) state.Awaiting f h.rise (within_most c n most h.taken.few h.taken.within) h.reaches.0 (asked_only c.code.units q b (k - n) h.reaches.1) in
+    ([], ap (λ x. x.acts) (one_course c k t _ r run))
+comes_next c a s n most (Ok (reached.Over e)) f h t r =
+    let m = h.reaches.0 in
+    let k = most_within c most in
+    let ends = h.reaches.4.1 (k - n) [] in
+    let same = same_acts c k h.reaches.1 t (quiet_run c a m n k ends.0 [] h.reaches.1 f h.rise (within_most c n most h.taken.few h.taken.within) h.reaches.2 ends.1) r in
+    (ap (λ x. x.acts) same, ap (λ x. end_of x.state) same ∙ h.reaches.3, λ going. absurd (h.reaches.4.0 (sym (ap (λ x. x.state) same) ∙ going)))
+comes_next c a s n most (Ok reached.Paused) f h t r =
+    let at_most = h.taken.paused refl in
+    let there = paused_there c n most at_most.0 at_most.1 in
+    let lt = at_most.1 in
+    (going_next c a (moment_of c.code.units s) n (most_within c most) f h.rise there h.reaches.0 h.reaches.1 t r, let below : most_within c most < c.budget = omega (arith, there, lt) in below)
+comes_next c a s n most (Ok reached.Spent) f h t r =
+    let there = spent_there c n most (h.taken.spent refl) h.taken.few in
+    let same = going_next c a (moment_of c.code.units s) n (most_within c most) f h.rise there h.reaches.0 h.reaches.1 t r in
+    (ap (λ x. x.acts) same, ap (λ x. end_of x.state) same, λ going. there ∙ h.taken.spent refl)
+comes_next c a s n most (Err w) f h t r = tt
+
+paused_whole : (c : Course) (a : Moment) (s : Stage) (n most : ℕ) (came : Result Reached Memory) → From c a → Came c a s n most came → answer_after came ≡ answer.Paused
+    → (n ≡ c.steps + most) × IsWhole state.Going (advanced c (answer_after came) n)
+paused_whole c a s n most (Ok (reached.Printed t)) f h e = absurd (let wrong : ⊥ = cc in wrong)
+paused_whole c a s n most (Ok (reached.Told p)) f h e = absurd (let wrong : ⊥ = cc in wrong)
+paused_whole c a s n most (Ok (reached.Asks q)) f h e = absurd (let wrong : ⊥ = cc in wrong)
+paused_whole c a s n most (Ok (reached.Over e1)) f h e = absurd (let wrong : ⊥ = cc in wrong)
+paused_whole c a s n most (Ok reached.Paused) f h e =
+    ((h.taken.paused refl).0, goes_only (advanced c answer.Paused n) f.entry n (moment_of c.code.units s) f.is (reached_so c a (moment_of c.code.units s) n answer.Paused [] f refl h.rise h.reaches.0) refl h.reaches.1)
+paused_whole c a s n most (Ok reached.Spent) f h e = absurd (let wrong : ⊥ = cc in wrong)
+paused_whole c a s n most (Err w) f h e = absurd (let wrong : ⊥ = cc in wrong)
+
+-- ---- the whole call
+
+pub record Called (c : Course) (most : ℕ) (result : Advanced) (new : Going) : Type 0 where
+  pub holds : Holds (advanced c result new.steps) new.phase new.stage
+  pub stands : stands_of new.phase ≡ after result c.stands
+  pub stays : Stays c result new.steps
+  pub next : IsNext c most result
+  pub rise : c.steps ≤ new.steps
+  pub few : new.steps ≤ c.steps + most
+  pub within : new.steps ≤ c.budget
+  pub paused : result ≡ answer.Paused → (new.steps ≡ c.steps + most) × IsWhole state.Going (advanced c result new.steps)
+
+-- how it stays, by how it stands; told of the stand alone, so that cases can be made of it
+stays_by : (c : Course) (st : Stands) (r : Advanced) (n : ℕ) → c.stands ≡ st → Stays (record c { stands = st }) r n → Stays c r n
+stays_by c st r n e h = subst (λ x. Stays (record c { stands = x }) r n) (sym e) h
+
+-- it stood free, and what it came to is told
+goes_so : (c : Course) (a : Moment) (most : ℕ) (result : Advanced) (new : Going) → c.stands ≡ Free → From c a → Goes c.code.units c.budget most a c.steps result new → Called c most result new
+goes_so c a most result new free f g =
+    let units = c.code.units in
+    let came : Came c a new.stage new.steps most g.came = record { reaches = g.reaches; stage = g.stage; taken = g.taken; refused = g.refused; rise = g.rise } in
+    let answered = sym g.answer in
+    record {
+      holds = subst (λ p. Holds (advanced c result new.steps) p new.stage) (sym g.phase) (subst (λ r. Holds (advanced c r new.steps) (phase_after g.came) new.stage) answered (holds_after c a new.stage new.steps most g.came f came));
+      stands = ap stands_of g.phase ∙ stands_after g.came ∙ ap (after (answer_after g.came)) (sym free) ∙ ap (λ r. after r c.stands) answered;
+      stays = subst (λ r. Stays c r new.steps) answered (stays_by c Free (answer_after g.came) new.steps free (no_await g.came));
+      next = λ is t r. subst (ComesNext c (most_within c most) t) answered (comes_next c a new.stage new.steps most g.came f came t r);
+      rise = g.rise;
+      few = g.few;
+      within = g.within;
+      paused = λ e. subst (λ r. (new.steps ≡ c.steps + most) × IsWhole state.Going (advanced c r new.steps)) answered (paused_whole c a new.stage new.steps most g.came f came (answered ∙ e));
+    }
+
+-- ---- nothing but the answer
+
+no_acts : (c : Course) (r : Advanced) → acts_in (r ∷ []) ≡ [] → acts_in (c.answers ++ r ∷ []) ≡ acts_in c.answers
+no_acts c r e = quiet c.answers r e
+
+quiet_come : (c : Course) (r : Advanced) (given : List Reply) (x y : List Act) (s : Stage) → y ≡ x → HasCome c given x s → HasCome (advanced c r c.steps) given y s
+quiet_come c r given x y s e h = record {
+  entry = h.entry;
+  is = h.is;
+  comes = subst (λ l. Comes c.code.units (at (start h.entry) c.inputs) c.steps given l (moment_of c.code.units s)) (sym e) h.comes;
+  stage = h.stage;
+}
+
+quiet_asking : (c : Course) (r : Advanced) (q : Question) (given : List Reply) (s : Stage) → acts_in (r ∷ []) ≡ [] → IsAsking c q given s → IsAsking (advanced c r c.steps) q given s
+quiet_asking c r q given s e h = record { before = h.before; acts = no_acts c r e ∙ h.acts; come = quiet_come c r given h.before h.before s refl h.come; asks = h.asks }
+
+same_run : (c : Course) (r : Advanced) (n : ℕ) (t : Trace) → RunsTo (advanced c r c.steps) n t → RunsTo c n t
+same_run c r n t h = record { entry = h.entry; is = h.is; run = h.run }
+
+run_too : (c : Course) (r : Advanced) (n : ℕ) (t : Trace) → RunsTo c n t → RunsTo (advanced c r c.steps) n t
+run_too c r n t h = record { entry = h.entry; is = h.is; run = h.run }
+
+quiet_begun : (c : Course) (r : Advanced) → acts_in (r ∷ []) ≡ [] → HasBegun c → HasBegun (advanced c r c.steps)
+quiet_begun c r e h n t le run = subst (λ l. Begins l t.acts) (sym (no_acts c r e)) (h n t le (same_run c r n t run))
+
+quiet_ended : (c : Course) (r : Advanced) (end : EndKind) → acts_in (r ∷ []) ≡ [] → HasEnded end c → HasEnded end (advanced c r c.steps)
+quiet_ended c r end e h = (
+  h.0,
+  h.1,
+  λ n le within. run_too c r n (so_far (advanced c r c.steps) h.0) (subst (λ l. RunsTo c n (record { acts = l; state = h.0 })) (sym (no_acts c r e)) (h.2 n le within)),
+)
+
+none_above : (n most : ℕ) → n ≤ n + most
+none_above n most = omega arith
+
+same_steps : (n : ℕ) → n ≤ n
+same_steps n = omega arith
+
+-- where it does not go on
+still : (c : Course) (most : ℕ) (r : Advanced) (old new : Going) → new ≡ old → old.steps ≡ c.steps → c.steps ≤ c.budget → (c.stands ≡ Free → ⊥) → (r ≡ answer.Paused → ⊥)
+    → Holds (advanced c r c.steps) old.phase old.stage → stands_of old.phase ≡ after r c.stands → Stays c r c.steps → Called c most r new
+still c most r old new same steps within busy other holds stands stays = subst (Called c most r) (sym same) (record {
+  holds = subst (λ n. Holds (advanced c r n) old.phase old.stage) (sym steps) holds;
+  stands = stands;
+  stays = subst (Stays c r) (sym steps) stays;
+  next = λ free. absurd (busy free);
+  rise = subst (λ n. c.steps ≤ n) (sym steps) (same_steps c.steps);
+  few = subst (λ n. n ≤ c.steps + most) (sym steps) (none_above c.steps most);
+  within = subst (λ n. n ≤ c.budget) (sym steps) within;
+  paused = λ e. absurd (other e);
+})
+
+owes_free : (c : Course) (command : Command) → c.stands ≡ Owes command → c.stands ≡ Free → ⊥
+owes_free c command e f = let wrong : ⊥ = cc in wrong
+
+over_free : (c : Course) (end : EndKind) → c.stands ≡ Over end → c.stands ≡ Free → ⊥
+over_free c end e f = let wrong : ⊥ = cc in wrong
+
+failed_free : (c : Course) → c.stands ≡ Failed → c.stands ≡ Free → ⊥
+failed_free c e f = let wrong : ⊥ = cc in wrong
+
+no_pause_await : answer.AwaitReply ≡ answer.Paused → ⊥
+no_pause_await e = let wrong : ⊥ = cc in wrong
+
+no_pause_ended : (end : EndKind) → answer.Ended end ≡ answer.Paused → ⊥
+no_pause_ended end e = let wrong : ⊥ = cc in wrong
+
+no_pause_memory : answer.Memory ≡ answer.Paused → ⊥
+no_pause_memory e = let wrong : ⊥ = cc in wrong
+
+no_await_ended : (end : EndKind) → answer.Ended end ≡ answer.AwaitReply → ⊥
+no_await_ended end e = let wrong : ⊥ = cc in wrong
+
+no_await_memory : answer.Memory ≡ answer.AwaitReply → ⊥
+no_await_memory e = let wrong : ⊥ = cc in wrong
+
+-- at a wall
+abbrev wall_ended : (c : Course) (q : Question) (reply : Reply) (s : Stage) (b : Moment) (end : EndKind) → HasReply c q reply s → Answers c.code.units (moment_of c.code.units s) q reply (Some end) b → HasEnded end c
+wall_ended c q reply s b end h a =
+    let come = h.asking.come in
+    (
+      a.0,
+      a.1,
+      λ n le within.
+          let x = a.2.1 (n - c.steps) [] in
+          let v = come.comes.forth (n - c.steps) (reply ∷ []) x.0 _ x.1 in
+          record {
+            entry = come.entry;
+            is = come.is;
+            run =
+              subst (λ l. CodeRun c.code.units come.entry c.inputs c.replies n (record { acts = l; state = a.0 })) (sym h.asking.acts)
+              (record {
+                instructions = v.0;
+                ends =
+                  ap (λ k. exec usual c.code.units v.0 (start come.entry) k c.inputs c.replies) (sym (steps_left c.steps n le))
+                  ∙ ap (λ l. exec usual c.code.units v.0 (start come.entry) (c.steps + (n - c.steps)) c.inputs l) h.replies
+                  ∙ v.1;
+              });
+          },
+    )
+
+-- the acts are all of those of the run, which is over
+ended_next : (c : Course) (most : ℕ) (end : EndKind) → c.steps ≤ c.budget → (h : HasEnded end c) → (h.0 ≡ state.Going → ⊥) → (t : Trace) → RunsTo c (most_within c most) t → ComesNext c (most_within c most) t (answer.Ended end)
+ended_next c most end within h other t r =
+    let few = most_few c most in
+    let le = within_most c c.steps most (none_above c.steps most) within in
+    let same = one_course c (most_within c most) t (so_far c h.0) r (h.2 (most_within c most) le few.1) in
+    (ap (λ x. x.acts) same, ap (λ x. end_of x.state) same ∙ h.1, λ going. absurd (other (sym (ap (λ x. x.state) same) ∙ going)))
+
+-- a call that ends without a step
+over_so : (c : Course) (most : ℕ) (end : EndKind) (result : Advanced) (new : Going) → c.stands ≡ Free → c.steps ≤ c.budget → HasBegun c → (h : HasEnded end c) → (h.0 ≡ state.Going → ⊥)
+    → result ≡ answer.Ended end → new.phase ≡ phase.Over end → new.steps ≡ c.steps → Called c most result new
+over_so c most end result new free within begun h other answered at steps =
+    subst (λ r. Called c most r new) (sym answered) (record {
+      holds = subst (λ p. Holds (advanced c (answer.Ended end) new.steps) p new.stage) (sym at) (subst (λ n. HasBegun (advanced c (answer.Ended end) n) × HasEnded end (advanced c (answer.Ended end) n)) (sym steps) (quiet_begun c (answer.Ended end) refl begun, quiet_ended c (answer.Ended end) end refl h));
+      stands = ap stands_of at;
+      stays = stays_by c Free (answer.Ended end) new.steps free (no_await_ended end);
+      next = λ is t r. ended_next c most end within h other t r;
+      rise = subst (λ n. c.steps ≤ n) (sym steps) (same_steps c.steps);
+      few = subst (λ n. n ≤ c.steps + most) (sym steps) (none_above c.steps most);
+      within = subst (λ n. n ≤ c.budget) (sym steps) within;
+      paused = λ e. absurd (no_pause_ended end e);
+    })
+
+-- a call that wants memory before a step
+failed_so : (c : Course) (most : ℕ) (result : Advanced) (new : Going) → c.stands ≡ Free → c.steps ≤ c.budget → HasBegun c → result ≡ answer.Memory → new.phase ≡ phase.Failed → new.steps ≡ c.steps → Called c most result new
+failed_so c most result new free within begun answered at steps =
+    subst (λ r. Called c most r new) (sym answered) (record {
+      holds = subst (λ p. Holds (advanced c answer.Memory new.steps) p new.stage) (sym at) (subst (λ n. HasBegun (advanced c answer.Memory n)) (sym steps) (quiet_begun c answer.Memory refl begun));
+      stands = ap stands_of at;
+      stays = stays_by c Free answer.Memory new.steps free no_await_memory;
+      next = λ is t r. tt;
+      rise = subst (λ n. c.steps ≤ n) (sym steps) (same_steps c.steps);
+      few = subst (λ n. n ≤ c.steps + most) (sym steps) (none_above c.steps most);
+      within = subst (λ n. n ≤ c.budget) (sym steps) within;
+      paused = λ e. absurd (no_pause_memory e);
+    })
+
+after_reply : (c : Course) (most : ℕ) (q : Question) (reply : Reply) (result : Advanced) (old new : Going) → c.stands ≡ Free → c.steps ≤ c.budget → old.steps ≡ c.steps → HasReply c q reply old.stage
+    → AfterReply c.code.units c.budget most old q reply result new → Called c most result new
+after_reply c most q reply result old new free within steps h (Behind a on g) =
+    goes_so c a most result new free (from_reply c q reply old.stage a h on) (subst (λ n. Goes c.code.units c.budget most a n result new) steps g)
+after_reply c most q reply result old new free within steps h (AtWall end a answered at same) =
+    over_so c most end result new free within (replied_begun c q reply old.stage h) (wall_ended c q reply old.stage (moment_of c.code.units new.stage) end h a) a.2.0 answered at (same ∙ steps)
+after_reply c most q reply result old new free within steps h (Wanted answered at same) = failed_so c most result new free within (replied_begun c q reply old.stage h) answered at (same ∙ steps)
+
+by_phase : (c : Course) (most : ℕ) (p : Phase) (result : Advanced) (old new : Going) → old.phase ≡ p → c.stands ≡ stands_of p → c.steps ≤ c.budget → old.steps ≡ c.steps → Holds c p old.stage
+    → Moves c.code.units c.budget most p old result new → Called c most result new
+by_phase c most phase.Ready result old new at is within steps h m =
+    goes_so c (moment_of c.code.units old.stage) most result new is (from_come c old.stage h) (subst (λ n. Goes c.code.units c.budget most (moment_of c.code.units old.stage) n result new) steps m)
+by_phase c most (phase.Replied q reply) result old new at is within steps h m = after_reply c most q reply result old new is within steps h m
+by_phase c most (phase.OwesRobot q) result old new at is within steps h m =
+    subst (λ r. Called c most r new) (sym m.0)
+    (still c most answer.AwaitReply old new m.1 steps within (owes_free c (Robot q.command) is) no_pause_await
+    (subst (λ p. Holds (advanced c answer.AwaitReply c.steps) p old.stage) (sym at) (quiet_asking c answer.AwaitReply q c.replies old.stage refl h))
+    (ap stands_of at ∙ sym is) (stays_by c (Owes (Robot q.command)) answer.AwaitReply c.steps is (refl, refl)))
+by_phase c most (phase.OwesPen p) result old new at is within steps h m =
+    subst (λ r. Called c most r new) (sym m.0)
+    (still c most answer.AwaitReply old new m.1 steps within (owes_free c (Pen p) is) no_pause_await
+    (subst (λ q. Holds (advanced c answer.AwaitReply c.steps) q old.stage) (sym at) (quiet_come c answer.AwaitReply c.replies (acts_in c.answers) (acts_in (c.answers ++ answer.AwaitReply ∷ [])) old.stage (no_acts c answer.AwaitReply refl) h))
+    (ap stands_of at ∙ sym is) (stays_by c (Owes (Pen p)) answer.AwaitReply c.steps is (refl, refl)))
+by_phase c most (phase.Over end) result old new at is within steps h m =
+    subst (λ r. Called c most r new) (sym m.0)
+    (still c most (answer.Ended end) old new m.1 steps within (over_free c end is) (no_pause_ended end)
+    (subst (λ p. Holds (advanced c (answer.Ended end) c.steps) p old.stage) (sym at) (quiet_begun c (answer.Ended end) refl h.0, quiet_ended c (answer.Ended end) end refl h.1))
+    (ap stands_of at) (stays_by c (Over end) (answer.Ended end) c.steps is (refl, refl)))
+by_phase c most phase.Failed result old new at is within steps h m =
+    subst (λ r. Called c most r new) (sym m.0)
+    (still c most answer.Memory old new m.1 steps within (failed_free c is) no_pause_memory
+    (subst (λ p. Holds (advanced c answer.Memory c.steps) p old.stage) (sym at) (quiet_begun c answer.Memory refl h))
+    (ap stands_of at) (stays_by c Failed answer.Memory c.steps is (refl, refl)))
+
+-- ---- a machine's call
+
+pub called : (code : ValidCode) (units : List CodeUnit) (budget most : ℕ) (old new : Going) (replies : List Reply) (answers : List Advanced) (result : Advanced) → units ≡ code.units → IsMachine (course_of code budget old replies answers) old
+    → Moves units budget most old.phase old result new → Called (course_of code budget old replies answers) most result new
+called code units budget most old new replies answers result same h m =
+    by_phase (course_of code budget old replies answers) most old.phase result old new refl refl h.0 refl h.1 (subst (λ u. Moves u budget most old.phase old result new) same m)
+
+-- the new course
+course_new : (code : ValidCode) (budget most : ℕ) (old new : Going) (replies : List Reply) (answers later : List Advanced) (result : Advanced) → Called (course_of code budget old replies answers) most result new
+    → new.stage.inputs ≡ old.stage.inputs → later ≡ answers ++ result ∷ [] → course_of code budget new replies later ≡ advanced (course_of code budget old replies answers) result new.steps
+course_new code budget most old new replies answers later result h e noted =
+    ap (λ l. course_of code budget new replies l) noted
+    ∙ ap (λ s. record { code = code; inputs = new.stage.inputs; budget = budget; steps = new.steps; replies = replies; answers = answers ++ result ∷ []; stands = s }) h.stands
+    ∙ ap (λ i. record { code = code; inputs = i; budget = budget; steps = new.steps; replies = replies; answers = answers ++ result ∷ []; stands = after result (stands_of old.phase) }) e
+
+pub machine_new : (code : ValidCode) (budget most : ℕ) (old new : Going) (replies : List Reply) (answers later : List Advanced) (result : Advanced) → Called (course_of code budget old replies answers) most result new
+    → new.stage.inputs ≡ old.stage.inputs → later ≡ answers ++ result ∷ [] → IsMachine (course_of code budget new replies later) new
+machine_new code budget most old new replies answers later result h e noted =
+    subst (λ c. IsMachine c new) (sym (course_new code budget most old new replies answers later result h e noted)) (h.within, h.holds)
+
+-- what a call promises
+pub record Promised (c : Course) (most : ℕ) (result : Advanced) (new : Course) : Type 0 where
+  pub advanced : new ≡ advanced c result new.steps
+  pub stays : Stays c result new.steps
+  pub next : IsNext c most result
+  pub lawful : IsLawful new
+  pub rise : c.steps ≤ new.steps
+  pub few : new.steps ≤ c.steps + most
+  pub paused : result ≡ answer.Paused → (new.steps ≡ c.steps + most) × IsWhole state.Going new
+
+pub promised : (code : ValidCode) (budget most : ℕ) (old new : Going) (replies : List Reply) (answers later : List Advanced) (result : Advanced) → Called (course_of code budget old replies answers) most result new
+    → new.stage.inputs ≡ old.stage.inputs → later ≡ answers ++ result ∷ [] → (c : Course) → course_of code budget old replies answers ≡ c → Promised c most result (course_of code budget new replies later)
+promised code budget most old new replies answers later result h e noted c is =
+    let same = course_new code budget most old new replies answers later result h e noted in
+    let holds = machine_new code budget most old new replies answers later result h e noted in
+    subst (λ x. Promised x most result (course_of code budget new replies later)) is (record {
+      advanced = same;
+      stays = h.stays;
+      next = h.next;
+      lawful = lawful (course_of code budget new replies later) new.phase new.stage refl holds.0 holds.1;
+      rise = h.rise;
+      few = h.few;
+      paused = λ p. let whole = h.paused p in (whole.0, subst (IsWhole state.Going) (sym same) whole.1);
+    })
+
+-- ---- a reply is given
+
+pub robot_replied : (code : ValidCode) (budget : ℕ) (going : Going) (replies later : List Reply) (answers : List Advanced) (q : Question) (reply : Reply) → IsMachine (course_of code budget going replies answers) going
+    → going.phase ≡ phase.OwesRobot q → later ≡ replies ++ reply ∷ [] → IsMachine (course_of code budget (record going { phase = phase.Replied q reply }) later answers) (record going { phase = phase.Replied q reply })
+robot_replied code budget going replies later answers q reply h at noted =
+    let asking = subst (λ p. Holds (course_of code budget going replies answers) p going.stage) at h.1 in
+    (
+      h.0,
+      record {
+        given = replies;
+        replies = noted;
+        asking = record {
+          before = asking.before;
+          acts = asking.acts;
+          come = record { entry = asking.come.entry; is = asking.come.is; comes = asking.come.comes; stage = asking.come.stage };
+          asks = asking.asks;
+        };
+      },
+    )
+
+pub pen_replied : (code : ValidCode) (budget : ℕ) (going : Going) (replies : List Reply) (answers : List Advanced) (p : PenCommand) → IsMachine (course_of code budget going replies answers) going
+    → going.phase ≡ phase.OwesPen p → IsMachine (course_of code budget (record going { phase = phase.Ready }) replies answers) (record going { phase = phase.Ready })
+pen_replied code budget going replies answers p h at =
+    let come = subst (λ x. Holds (course_of code budget going replies answers) x going.stage) at h.1 in
+    (h.0, record { entry = come.entry; is = come.is; comes = come.comes; stage = come.stage })
+
+pub machine_lawful : (code : ValidCode) (budget : ℕ) (going : Going) (replies : List Reply) (answers : List Advanced) → IsMachine (course_of code budget going replies answers) going → IsLawful (course_of code budget going replies answers)
+machine_lawful code budget going replies answers h = lawful (course_of code budget going replies answers) going.phase going.stage refl h.0 h.1

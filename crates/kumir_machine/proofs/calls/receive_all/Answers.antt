@@ -1,9 +1,0 @@
-use Rattle.std.proofs.Common.{◌≤◌, subst}
-use Rattle.kumir_machine.specs.Moments.{slots_of}
-use Rattle.kumir_machine.proofs.Calling.{received_end}
-use Rattle.kumir_machine.proofs.calls.receive_all.Goals as goal
-
-pub returns-clause-received : goal.returns-clause-received
-returns-clause-received c =
-    received_end 1000000 c.args.params.now c.args.places.now c.loop-at.at c.loop-at.left.now (slots_of c.args.slots.now) c.loop-at.begun tt _
-    (subst (λ n. n ≤ c.loop-at.at) c.min-at-end.ensures c.loop-at-test.false) c.loop-at.invariant.received

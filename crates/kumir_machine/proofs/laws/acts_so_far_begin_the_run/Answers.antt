@@ -1,5 +1,0 @@
-use Rattle.kumir_machine.proofs.Coming.{so_far}
-use Rattle.kumir_machine.proofs.laws.acts_so_far_begin_the_run.Goals as goal
-
-pub returns : goal.returns
-returns c = so_far

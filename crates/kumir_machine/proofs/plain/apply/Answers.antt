@@ -1,5 +1,0 @@
-use Rattle.kumir_machine.proofs.Giving.{given_on}
-use Rattle.kumir_machine.proofs.plain.apply.Goals as goal
-
-pub returns-clause-acts : goal.returns-clause-acts
-returns-clause-acts c = given_on _ _ c.args.running.now _ _ _ _ c.args.line c.apply_top-got.ensures.got c.apply_top-got.ensures.left c.push_or_end.ensures.acts

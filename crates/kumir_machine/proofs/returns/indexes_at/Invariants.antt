@@ -1,8 +1,0 @@
-use Rattle.std.proofs.Common.{◌≡◌, map, take}
-use Rattle.stack_code.specs.CodeState.{cell_in}
-use Rattle.stack_code.specs.Instructions.{index_in}
-use Rattle.kumir_machine.specs.Moments.{slots_of}
-use Rattle.kumir_machine.proofs.returns.indexes_at.Given as goal
-
-abbrev pub invariant-loop-slot : goal.invariant-loop-slot
-invariant-loop-slot l = l.found.items ≡ map (λ h. index_in (cell_in (slots_of l.slots h))) (take l.slot-index l.hidden)

@@ -1,9 +1,0 @@
-use Rattle.std.proofs.Common.{◌≤◌, ◌-◌}
-use Rattle.kumir_machine.specs.Moments.{AllEmpty}
-use Rattle.kumir_machine.proofs.slots.nothing_held.Given as goal
-
-abbrev pub invariant-loop-at : goal.invariant-loop-at
-invariant-loop-at l = (l.at ≤ l.fn.count) × AllEmpty l.at l.held.items
-
-abbrev pub decreases-loop-at : goal.decreases-loop-at
-decreases-loop-at l = l.fn.count - l.at

@@ -1,0 +1,6 @@
+use Rattle.std.proofs.Common.{◌≡◌, map, take}
+use Rattle.kumir_values.specs.Operations.{number_of}
+use Rattle.machine_steps.proofs.operands.numbers_in.Given as goal
+
+abbrev pub invariant-loop-value : goal.invariant-loop-value
+invariant-loop-value l = l.found.items ≡ map number_of (take l.value-index l.values)

@@ -1,0 +1,9 @@
+use Rattle.std.proofs.Common.{◌∙◌, ap}
+use Rattle.kumir_values.specs.Store.{Empty}
+use Rattle.stack_code.specs.CodeState.{Plain}
+use Rattle.machine_steps.specs.Moments.{slots_of}
+use Rattle.machine_steps.proofs.Updates.{elsewhere}
+use Rattle.machine_steps.proofs.returns.take_or_copy.Goals as goal
+
+pub returns-else-is_needed-clause-others : goal.returns-else-is_needed-clause-others
+returns-else-is_needed-clause-others c = λ y other. ap (λ s. s y) c.take.ensures.slots ∙ elsewhere (slots_of c.args.callee.now) c.args.slot y (Plain Empty) other

@@ -1,0 +1,17 @@
+use Rattle.std.proofs.Common.{◌≡◌, ◌≤◌, ◌+◌, ◌-◌, []}
+use Rattle.machine_steps.specs.Progress.{Comes}
+use Rattle.machine_steps.specs.Stages.{moment_of, IsStage}
+use Rattle.machine_steps.proofs.steps.run_steps.Given as goal
+
+abbrev pub invariant-loop-stop : goal.invariant-loop-stop
+invariant-loop-stop l = record {
+  stage : IsStage l.units l.stage;
+  inputs : l.stage.inputs ≡ l.fn.stage.inputs;
+  steps : l.steps ≡ l.fn.steps + l.taken;
+  few : l.taken ≤ l.most;
+  within : l.steps ≤ l.budget;
+  comes : Comes l.units (moment_of l.units l.fn.stage) l.taken [] [] (moment_of l.units l.stage);
+}
+
+abbrev pub decreases-loop-stop : goal.decreases-loop-stop
+decreases-loop-stop l = l.most - l.taken

@@ -1,0 +1,16 @@
+pub mod Moments
+pub mod Acting
+pub mod Progress
+pub mod Local
+pub mod Laws
+pub mod Carried
+pub mod Loops
+pub mod Grids
+pub mod Calls
+pub mod Returns
+pub mod Frames
+pub mod Silent
+pub mod Standing
+pub mod Stages
+pub mod Reaching
+pub mod Replying

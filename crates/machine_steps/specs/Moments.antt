@@ -1,0 +1,56 @@
+-- How what a machine holds stands for a moment of running code.
+use Rattle.std.specs.Prelude.{◌≡◌, ℕ, List, length, get_or, slice_get, Option, Some, None}
+use Rattle.kumir_values.specs.Operations as operations
+use Rattle.machine_steps.specs.declared.values.BuiltIn.{BuiltIn}
+use Rattle.machine_steps.specs.declared.values.BuiltIn.TheVariants as call
+use Rattle.kumir_values.specs.Tables.{Grid, value_at}
+use Rattle.kumir_values.specs.Store as store
+use Rattle.machine_steps.specs.declared.held.Cell.{Cell}
+use Rattle.machine_steps.specs.declared.held.Cell.TheVariants.{Empty, Has, Holds}
+use Rattle.machine_steps.specs.declared.held.Turns.{Turns}
+use Rattle.machine_steps.specs.declared.held.Turns.TheVariants as turns
+use Rattle.machine_steps.specs.declared.held.Held.{Held}
+use Rattle.machine_steps.specs.declared.held.Held.TheVariants as held
+use Rattle.machine_steps.specs.declared.running.Running.{Running}
+use Rattle.stack_code.specs.CodeState.{Slot, Plain, Left, Numbers, Slots, Frame, State}
+
+-- the built-in algorithm of an instruction
+abbrev pub built_in_of : BuiltIn → operations.BuiltIn
+built_in_of call.Div = operations.Div
+built_in_of call.Mod = operations.Mod
+built_in_of call.Abs = operations.Abs
+built_in_of call.Min = operations.Min
+built_in_of call.Max = operations.Max
+
+-- a table as a finite map
+abbrev pub table_map : Grid → store.TableMap
+table_map t = record { kind = t.kind; bounds = t.bounds; values = value_at t }
+
+abbrev pub cell_of : Cell → store.Cell
+cell_of Empty = store.Empty
+cell_of (Has v) = store.Has v
+cell_of (Holds t) = store.Holds (table_map t)
+
+abbrev pub turns_of : Turns → Slot
+turns_of (turns.Left n) = Left n
+turns_of (turns.Numbers n) = Numbers n.next n.last n.step
+
+abbrev pub slot_of : Held → Slot
+slot_of (held.Plain c) = Plain (cell_of c)
+slot_of (held.Loop t) = turns_of t
+
+-- a slot that is not there holds nothing
+abbrev pub slot_or : Option Held → Slot
+slot_or None = Plain store.Empty
+slot_or (Some h) = slot_of h
+
+abbrev pub slots_of : List Held → Slots
+slots_of slots x = slot_or (slice_get slots x)
+
+-- an algorithm that runs, over calls that wait
+abbrev pub state_of : Running → List Frame → State
+state_of r frames = record { unit = r.unit; pc = r.pc; stack = r.operands; slots = slots_of r.slots; used = r.used; frames = frames }
+
+-- so many slots that hold nothing
+abbrev pub AllEmpty : ℕ → List Held → Type 0
+AllEmpty count slots = (length slots ≡ count) × ((x : ℕ) → get_or slots x (held.Plain Empty) ≡ held.Plain Empty)

@@ -1,0 +1,73 @@
+-- What a run comes to within some steps.
+use Rattle.std.specs.Prelude.{◌≡◌, ℕ, ◌+◌, ◌<◌, ◌≤◌, List, [], ◌∷◌, Option, Some, None, All}
+use Rattle.performer_kit.specs.declared.commands.Command.TheVariants.{Pen}
+use Rattle.kumir_values.specs.declared.run_end.EndKind.{EndKind}
+use Rattle.kumir_values.specs.Runs.{Printed, Sent, RunState, end_of}
+use Rattle.stack_code.specs.declared.unit.CodeUnit.{CodeUnit}
+use Rattle.machine_steps.specs.declared.running.Running.{Running}
+use Rattle.machine_steps.specs.declared.stage.Stage.{Stage}
+use Rattle.machine_steps.specs.declared.stage.Stop.{Stop}
+use Rattle.machine_steps.specs.declared.stage.Stop.TheVariants as stop
+use Rattle.machine_steps.specs.declared.steps.Reached.{Reached}
+use Rattle.machine_steps.specs.declared.steps.Reached.TheVariants as reached
+use Rattle.machine_steps.specs.Progress.{Moment, Comes}
+use Rattle.machine_steps.specs.Carried.{EndsIn}
+use Rattle.machine_steps.specs.Frames.{IsEntered, Waits}
+use Rattle.machine_steps.specs.Stages.{IsStage, NeedsStep, Asks}
+
+-- so many steps lead to some moment at which the run ends in that way
+abbrev pub EndsAfter : List CodeUnit → Moment → ℕ → EndKind → Type 0
+EndsAfter units a taken end = (m : Moment) × (state : RunState) × Comes units a taken [] [] m × (end_of state ≡ Some end) × EndsIn units m state
+
+-- what so many steps lead to
+abbrev pub Reaches : List CodeUnit → Moment → ℕ → Reached → Moment → Type 0
+Reaches units a taken (reached.Printed text) b = Comes units a taken [] (Printed text ∷ []) b
+Reaches units a taken (reached.Told command) b = Comes units a taken [] (Sent (Pen command) ∷ []) b
+Reaches units a taken (reached.Asks q) b = Comes units a taken [] [] b × Asks units q b
+Reaches units a taken (reached.Over end) b = EndsAfter units a taken end
+Reaches units a taken reached.Paused b = Comes units a taken [] [] b × NeedsStep units b
+Reaches units a taken reached.Spent b = Comes units a taken [] [] b × NeedsStep units b
+
+-- so many steps lead to some moment
+abbrev pub ComesSome : List CodeUnit → Moment → ℕ → Type 0
+ComesSome units a taken = (m : Moment) × Comes units a taken [] [] m
+
+-- behind a step: a call may stand next
+pub record IsBehindStep (units : List CodeUnit) (s : Stage) : Type 0 where
+  pub entered : IsEntered units s.running
+  pub waits : All (Waits units) s.waiting.items
+
+-- one step, and the call behind it: it goes on, or the run ends
+abbrev pub Enters : List CodeUnit → Moment → Option EndKind → Moment → Type 0
+Enters units a None b = Comes units a 0 [] [] b
+Enters units a (Some end) b = (state : RunState) × (end_of state ≡ Some end) × EndsIn units a state
+
+-- one step: it goes on, or the run ends
+abbrev pub Passes : List CodeUnit → Moment → Option EndKind → Moment → Type 0
+Passes units a None b = Comes units a 1 [] [] b
+Passes units a (Some end) b = EndsAfter units a 1 end
+
+-- what a stop is to the run, but for one before a step
+abbrev pub as_reached : Stop → Option Reached
+as_reached (stop.Printed text) = Some (reached.Printed text)
+as_reached (stop.Told command) = Some (reached.Told command)
+as_reached (stop.Asks q) = Some (reached.Asks q)
+as_reached (stop.Over end) = Some (reached.Over end)
+as_reached stop.Step = None
+
+-- the stage stays one, where the run is not over
+abbrev pub IsStageAt : List CodeUnit → Reached → Stage → Type 0
+IsStageAt units (reached.Over end) s = Unit {0}
+IsStageAt units other s = IsStage units s
+
+-- an algorithm behind a step
+abbrev pub stepped : Running → Running
+stepped r = record r { pc = r.pc + 1 }
+
+-- the steps before and now: no more than so many, within the budget; a pause comes after all of them, an end of the budget at its end
+pub record StepsIn (before now budget most : ℕ) (r : Reached) : Type 0 where
+  pub rise : before ≤ now
+  pub few : now ≤ before + most
+  pub within : now ≤ budget
+  pub paused : r ≡ reached.Paused → (now ≡ before + most) × (now < budget)
+  pub spent : r ≡ reached.Spent → now ≡ budget

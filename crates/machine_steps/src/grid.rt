@@ -1,0 +1,153 @@
+//! What a variable holds, as a table.
+ghost use Rattle.std.specs.Prelude.{◌≡◌, IfOk, IfErr, IsOk, IsTrue, IsFalse, ◌↔◌, ◌&&◌};
+ghost use Rattle.std.specs.Ordering.{int_eq};
+ghost use Rattle.kumir_values.specs.Bounds.{inside};
+ghost use Rattle.kumir_values.specs.Tables.{is_of_kind};
+ghost use Rattle.kumir_values.specs.Store as store;
+ghost use Rattle.kumir_values.specs.Store.{element, checked, fitted, same_bounds, with_element, elements_in};
+ghost use Rattle.stack_code.specs.CodeState.{paired};
+ghost use Rattle.machine_steps.specs.Moments.{table_map, cell_of};
+ghost use Rattle.machine_steps.specs.Grids.{IsFine};
+
+use crate::held::Cell;
+use kumir_tree::Kind;
+use kumir_values::{Bound, RunFault, Table, Value};
+
+/// The element of a table: `Index` outside its bounds, `Unset` where it has no value.
+#[tactic(auto, using(crate::proofs::Grids::other_length))]
+pub fn element_of(table: &Table, index: &[i32]) -> Result<Value, RunFault>
+    ensures { result ≡ element (store.Holds (table_map table.now)) index.now }
+{
+    if index.len() != table.bounds().len() {
+        return Err(RunFault::Index);
+    }
+    table.get(index)
+}
+
+/// The element of what a variable holds; `Unset` where it is no table.
+pub fn element_in(cell: &Cell, index: &[i32]) -> Result<Value, RunFault>
+    ensures { result ≡ element (cell_of cell.now) index.now }
+{
+    match cell {
+        Cell::Holds(table) => element_of(table, index),
+        Cell::Empty | Cell::Has(_) => Err(RunFault::Unset),
+    }
+}
+
+/// Whether the indexes lie within the bounds.
+pub fn is_inside(table: &Table, index: &[i32]) -> bool
+    ensures { result ≡ inside table.now.bounds index.now }
+{
+    match element_of(table, index) {
+        Err(RunFault::Index) => false,
+        Ok(_) | Err(_) => true,
+    }
+}
+
+/// Checks the indexes of an element: `Unset` where there is no table, `Index` outside its bounds.
+pub fn check_in(cell: &Cell, index: &[i32]) -> Result<(), RunFault>
+    ensures { IsFine (checked (cell_of cell.now) index.now) result }
+{
+    match cell {
+        Cell::Holds(table) => {
+            if is_inside(table, index) {
+                Ok(())
+            } else {
+                Err(RunFault::Index)
+            }
+        }
+        Cell::Empty | Cell::Has(_) => Err(RunFault::Unset),
+    }
+}
+
+/// Whether a bound has these ends.
+fn has_ends(bound: Bound, low: i32, high: i32) -> bool
+    ensures { result ≡ (int_eq bound.low low && int_eq bound.high high) }
+{
+    bound.low == low && bound.high == high
+}
+
+/// Whether the bounds are these numbers in pairs; a last number alone is left out.
+#[tactic(auto, using(crate::proofs::Pairs::other_count, crate::proofs::Pairs::differs, crate::proofs::Pairs::agrees, crate::proofs::Pairs::none_behind))]
+fn are_bounds(bounds: &[Bound], ends: &[i32]) -> bool
+    ensures { result ≡ same_bounds bounds.now (paired ends.now) }
+{
+    if bounds.len() != ends.len() / 2 {
+        return false;
+    }
+    let mut at = 0;
+    while at < bounds.len() {
+        if !has_ends(bounds[at], ends[2 * at], ends[2 * at + 1]) {
+            return false;
+        }
+        at += 1;
+    }
+    true
+}
+
+/// Compares the bounds of a table with numbers in pairs: `Unset` where there is no table, `Bounds` where they differ.
+pub fn fit_in(cell: &Cell, ends: &[i32]) -> Result<(), RunFault>
+    ensures { IsFine (fitted (cell_of cell.now) (paired ends.now)) result }
+{
+    match cell {
+        Cell::Holds(table) => {
+            if are_bounds(table.bounds(), ends) {
+                Ok(())
+            } else {
+                Err(RunFault::Bounds)
+            }
+        }
+        Cell::Empty | Cell::Has(_) => Err(RunFault::Unset),
+    }
+}
+
+/// How many elements a variable has.
+pub fn size_of(cell: &Cell) -> u32
+    ensures { result ≡ elements_in (cell_of cell.now) }
+{
+    match cell {
+        Cell::Holds(table) => table.size(),
+        Cell::Empty | Cell::Has(_) => 0,
+    }
+}
+
+/// Whether a table of this kind can take it.
+fn can_take(kind: Kind, value: Option<Value>) -> bool
+    ensures { result ≡ is_of_kind kind value }
+{
+    match (kind, value) {
+        (_, None) => true,
+        (Kind::Whole, Some(Value::Whole(_))) | (Kind::Truth, Some(Value::Truth(_))) => true,
+        (Kind::Whole, Some(Value::Truth(_))) | (Kind::Truth, Some(Value::Whole(_))) => false,
+    }
+}
+
+/// Gives an element of a table a value, or takes it away, where the table can take it.
+#[tactic(auto, using(crate::proofs::Grids::other_length, crate::proofs::Grids::outside_kept, crate::proofs::Grids::other_kind_kept))]
+fn change(table: &mut Table, index: &[i32], value: Option<Value>)
+    ensures { store.Holds (table_map table.new) ≡ with_element (store.Holds (table_map table.old)) index.now value }
+{
+    if index.len() != table.bounds().len() {
+        return;
+    }
+    if !can_take(table.kind(), value) {
+        return;
+    }
+    let changed = match value {
+        Some(value) => table.set(index, value),
+        None => table.clear(index),
+    };
+    match changed {
+        Ok(()) | Err(_) => {}
+    }
+}
+
+/// Gives an element of what a variable holds a value, or takes it away.
+pub fn put_element(cell: &mut Cell, index: &[i32], value: Option<Value>)
+    ensures { cell_of cell.new ≡ with_element (cell_of cell.old) index.now value }
+{
+    match cell {
+        Cell::Holds(table) => change(table, index, value),
+        Cell::Empty | Cell::Has(_) => {}
+    }
+}
