@@ -14,7 +14,6 @@ use Rattle.machine_steps.specs.Frames.{AllValid}
 use Rattle.machine_steps.specs.Stages.{moment_of, IsStage}
 use Rattle.machine_steps.proofs.Coming.{comes_none}
 use Rattle.kumir_machine.specs.declared.answer.Advanced.{Advanced}
-use Rattle.kumir_machine.specs.declared.going.Going.{Going}
 use Rattle.kumir_machine.specs.declared.going.Phase.TheVariants as phase
 use Rattle.kumir_machine.specs.Course.{acts_in}
 use Rattle.kumir_machine.specs.Standing.{course_of, IsMachine}
@@ -33,16 +32,15 @@ pub begun_machine : (code : ValidCode) (units : List CodeUnit) (budget entry : �
     → IsStage units s → moment_of units s ≡ at (start entry) inputs → s.inputs ≡ inputs → replies ≡ [] → answers ≡ []
     → IsMachine (course_of code budget (record { stage = s; steps = 0; phase = phase.Ready }) replies answers) (record { stage = s; steps = 0; phase = phase.Ready })
 begun_machine code units budget entry inputs s replies answers is same stage begin from none none_yet =
-    let there = ap (λ u. moment_of u s) (sym same) ∙ begin ∙ ap (at (start entry)) (sym from) in
-    (
+    let there = ap (λ u. moment_of u s) (sym same) ∙ begin ∙ ap (at (start entry)) (sym from) in (
       let le : 0 ≤ budget = omega arith in le,
       record {
         entry = entry;
         is = is;
         comes =
-          subst (λ l. Comes code.units (at (start entry) s.inputs) 0 l (acts_in answers) (moment_of code.units s)) (sym none)
-          (subst (λ l. Comes code.units (at (start entry) s.inputs) 0 [] (acts_in l) (moment_of code.units s)) (sym none_yet)
-          (subst (λ m. Comes code.units (at (start entry) s.inputs) 0 [] [] m) (sym there) (comes_none code.units (at (start entry) s.inputs))));
+            subst (λ l. Comes code.units (at (start entry) s.inputs) 0 l (acts_in answers) (moment_of code.units s)) (sym none)
+            (subst (λ l. Comes code.units (at (start entry) s.inputs) 0 [] (acts_in l) (moment_of code.units s)) (sym none_yet)
+            (subst (λ m. Comes code.units (at (start entry) s.inputs) 0 [] [] m) (sym there) (comes_none code.units (at (start entry) s.inputs))));
         stage = subst (λ u. IsStage u s) same stage;
       },
     )

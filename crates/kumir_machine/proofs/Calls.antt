@@ -1,5 +1,5 @@
 -- One call of a machine.
-use Rattle.std.proofs.Common.{◌≡◌, ℕ, ◌+◌, ◌-◌, ◌≤◌, ◌<◌, Bool, true, false, List, [], ◌∷◌, ◌++◌, Option, Some, None, Result, Ok, Err, refl, sym, ap, ◌∙◌, subst, arith, append_assoc, append-nil}
+use Rattle.std.proofs.Common.{◌≡◌, ℕ, ◌+◌, ◌-◌, ◌≤◌, ◌<◌, Bool, true, false, List, [], ◌∷◌, ◌++◌, Some, None, Result, Ok, Err, refl, sym, ap, ◌∙◌, subst, arith, append_assoc, append-nil}
 use Rattle.std.specs.Prelude.{IfOk, IfErr, nat_le, if◌then◌else◌}
 use Rattle.std.proofs.lemmas.Bool.Decides.{nat_tests}
 use Rattle.km_base.specs.declared.Memory.{Memory}
@@ -33,7 +33,7 @@ use Rattle.kumir_machine.specs.declared.going.Going.{Going}
 use Rattle.kumir_machine.specs.Course.{Stands, Free, Owes, Over, Failed, Course, acts_in, RunsTo, so_far, HasBegun, IsWhole, HasEnded, IsLawful, after, advanced, Stays, most_within, ComesNext, IsNext}
 use Rattle.kumir_machine.specs.Going.{phase_after, answer_after, Goes, AfterReply, Behind, AtWall, Wanted, Moves}
 use Rattle.kumir_machine.specs.Standing.{stands_of, course_of, HasCome, IsAsking, HasReply, Holds, IsMachine}
-use Rattle.kumir_machine.proofs.Courses.{acts_joined, quiet, begins_by, runs_by, asked_only, one_course, some_begun, run_from, runs_only, ends_only, goes_only, needs_only, spent_only, replied_begun, lawful}
+use Rattle.kumir_machine.proofs.Courses.{acts_joined, quiet, begins_by, runs_by, asked_only, one_course, some_begun, run_from, ends_only, goes_only, needs_only, spent_only, replied_begun, lawful}
 
 -- ---- where a call goes on
 
@@ -57,10 +57,10 @@ from_reply c q r s a h on =
       entry = come.entry;
       is = come.is;
       comes =
-        subst (λ k. Comes c.code.units origin k c.replies (acts_in c.answers) a) (no_more c.steps)
-        (subst (λ l. Comes c.code.units origin (c.steps + 0) l (acts_in c.answers) a) (sym h.replies)
-        (subst (λ l. Comes c.code.units origin (c.steps + 0) (h.given ++ r ∷ []) l a) (sym h.asking.acts)
-        (comes_both c.code.units origin (moment_of c.code.units s) a c.steps 0 h.given (r ∷ []) h.asking.before (Sent (Robot q.command) ∷ []) come.comes on)));
+          subst (λ k. Comes c.code.units origin k c.replies (acts_in c.answers) a) (no_more c.steps)
+          (subst (λ l. Comes c.code.units origin (c.steps + 0) l (acts_in c.answers) a) (sym h.replies)
+          (subst (λ l. Comes c.code.units origin (c.steps + 0) (h.given ++ r ∷ []) l a) (sym h.asking.acts)
+          (comes_both c.code.units origin (moment_of c.code.units s) a c.steps 0 h.given (r ∷ []) h.asking.before (Sent (Robot q.command) ∷ []) come.comes on)));
     }
 
 steps_left : (taken n : ℕ) → taken ≤ n → taken + (n - taken) ≡ n
@@ -166,8 +166,8 @@ quiet_run c a b n k j x e f rise le h ends = record {
   entry = f.entry;
   is = f.is;
   run =
-    runs_by c.code.units f.entry n k j c.inputs c.replies (acts_in c.answers) x b e
-    (subst (λ acts. Comes c.code.units (at (start f.entry) c.inputs) n c.replies acts b) (append-nil (acts_in c.answers)) (onward c a b n [] f rise h)) le ends;
+      runs_by c.code.units f.entry n k j c.inputs c.replies (acts_in c.answers) x b e
+      (subst (λ acts. Comes c.code.units (at (start f.entry) c.inputs) n c.replies acts b) (append-nil (acts_in c.answers)) (onward c a b n [] f rise h)) le ends;
 }
 
 same_acts : (c : Course) (k : ℕ) (e : RunState) (t : Trace) → RunsTo c k (record { acts = acts_in c.answers ++ []; state = e }) → RunsTo c k t → t ≡ so_far c e
@@ -342,8 +342,7 @@ no_await_memory e = let wrong : ⊥ = cc in wrong
 -- at a wall
 abbrev wall_ended : (c : Course) (q : Question) (reply : Reply) (s : Stage) (b : Moment) (end : EndKind) → HasReply c q reply s → Answers c.code.units (moment_of c.code.units s) q reply (Some end) b → HasEnded end c
 wall_ended c q reply s b end h a =
-    let come = h.asking.come in
-    (
+    let come = h.asking.come in (
       a.0,
       a.1,
       λ n le within.
@@ -353,14 +352,14 @@ wall_ended c q reply s b end h a =
             entry = come.entry;
             is = come.is;
             run =
-              subst (λ l. CodeRun c.code.units come.entry c.inputs c.replies n (record { acts = l; state = a.0 })) (sym h.asking.acts)
-              (record {
-                instructions = v.0;
-                ends =
-                  ap (λ k. exec usual c.code.units v.0 (start come.entry) k c.inputs c.replies) (sym (steps_left c.steps n le))
-                  ∙ ap (λ l. exec usual c.code.units v.0 (start come.entry) (c.steps + (n - c.steps)) c.inputs l) h.replies
-                  ∙ v.1;
-              });
+                subst (λ l. CodeRun c.code.units come.entry c.inputs c.replies n (record { acts = l; state = a.0 })) (sym h.asking.acts)
+                (record {
+                  instructions = v.0;
+                  ends =
+                      ap (λ k. exec usual c.code.units v.0 (start come.entry) k c.inputs c.replies) (sym (steps_left c.steps n le))
+                      ∙ ap (λ l. exec usual c.code.units v.0 (start come.entry) (c.steps + (n - c.steps)) c.inputs l) h.replies
+                      ∙ v.1;
+                });
           },
     )
 
@@ -485,8 +484,7 @@ promised code budget most old new replies answers later result h e noted c is =
 pub robot_replied : (code : ValidCode) (budget : ℕ) (going : Going) (replies later : List Reply) (answers : List Advanced) (q : Question) (reply : Reply) → IsMachine (course_of code budget going replies answers) going
     → going.phase ≡ phase.OwesRobot q → later ≡ replies ++ reply ∷ [] → IsMachine (course_of code budget (record going { phase = phase.Replied q reply }) later answers) (record going { phase = phase.Replied q reply })
 robot_replied code budget going replies later answers q reply h at noted =
-    let asking = subst (λ p. Holds (course_of code budget going replies answers) p going.stage) at h.1 in
-    (
+    let asking = subst (λ p. Holds (course_of code budget going replies answers) p going.stage) at h.1 in (
       h.0,
       record {
         given = replies;

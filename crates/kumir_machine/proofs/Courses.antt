@@ -12,8 +12,8 @@ use Rattle.kumir_values.specs.Runs.{Act, Printed, Sent, RunState, Trace, only, a
 use Rattle.kumir_values.specs.Runs as state
 use Rattle.kumir_values.specs.Meaning.{usual}
 use Rattle.stack_code.specs.declared.unit.CodeUnit.{CodeUnit}
-use Rattle.stack_code.specs.Instructions.{After, Event, Asks as Awaits, acts_at, step}
-use Rattle.stack_code.specs.CodeRuns.{after_some, after_reply, meet, exec, start, CodeRun, Begins}
+use Rattle.stack_code.specs.Instructions.{acts_at}
+use Rattle.stack_code.specs.CodeRuns.{after_some, meet, exec, start, CodeRun, Begins}
 use Rattle.stack_code.proofs.Traces.{one_trace}
 use Rattle.machine_steps.specs.declared.stage.Stage.{Stage}
 use Rattle.machine_steps.specs.declared.stage.Question.{Question}
@@ -24,7 +24,7 @@ use Rattle.kumir_machine.specs.declared.answer.Advanced.{Advanced}
 use Rattle.kumir_machine.specs.declared.answer.Advanced.TheVariants as answer
 use Rattle.kumir_machine.specs.declared.going.Phase.{Phase}
 use Rattle.kumir_machine.specs.declared.going.Phase.TheVariants as phase
-use Rattle.kumir_machine.specs.Course.{Stands, Free, Owes, Over, Failed, Course, acts_in, RunsTo, so_far, HasBegun, IsWhole, HasEnded, IsLawful}
+use Rattle.kumir_machine.specs.Course.{Free, Owes, Over, Failed, Course, acts_in, RunsTo, so_far, HasBegun, IsWhole, HasEnded, IsLawful}
 use Rattle.kumir_machine.specs.Standing.{stands_of, HasCome, IsAsking, HasReply, Holds}
 
 -- ---- the acts of answers
@@ -96,8 +96,8 @@ runs_only c entry n j b e is p le h = record {
   entry = entry;
   is = is;
   run =
-    subst (λ acts. CodeRun c.code.units entry c.inputs c.replies n (record { acts = acts; state = e })) (append-nil (acts_in c.answers))
-    (runs_by c.code.units entry c.steps n j c.inputs c.replies (acts_in c.answers) [] b e p le h);
+      subst (λ acts. CodeRun c.code.units entry c.inputs c.replies n (record { acts = acts; state = e })) (append-nil (acts_in c.answers))
+      (runs_by c.code.units entry c.steps n j c.inputs c.replies (acts_in c.answers) [] b e p le h);
 }
 
 pub ends_only : (c : Course) (entry : ℕ) (b : Moment) (e : RunState) (end : EndKind) → c.code.entry ≡ Some entry → Comes c.code.units (at (start entry) c.inputs) c.steps c.replies (acts_in c.answers) b
@@ -126,8 +126,8 @@ asking_runs c q s h n le = record {
   entry = h.come.entry;
   is = h.come.is;
   run =
-    subst (λ acts. CodeRun c.code.units h.come.entry c.inputs c.replies n (record { acts = acts; state = state.Awaiting })) (sym h.acts)
-    (runs_by c.code.units h.come.entry c.steps n 1 c.inputs c.replies h.before (Sent (Robot q.command) ∷ []) (moment_of c.code.units s) state.Awaiting h.come.comes le (asked_only c.code.units q (moment_of c.code.units s) (n - c.steps) h.asks));
+      subst (λ acts. CodeRun c.code.units h.come.entry c.inputs c.replies n (record { acts = acts; state = state.Awaiting })) (sym h.acts)
+      (runs_by c.code.units h.come.entry c.steps n 1 c.inputs c.replies h.before (Sent (Robot q.command) ∷ []) (moment_of c.code.units s) state.Awaiting h.come.comes le (asked_only c.code.units q (moment_of c.code.units s) (n - c.steps) h.asks));
 }
 
 pub all_begun : (c : Course) (n : ℕ) (e : RunState) (t : Trace) → RunsTo c n (so_far c e) → RunsTo c n t → Begins (acts_in c.answers) t.acts

@@ -1,8 +1,7 @@
 -- The course of a machine: what it was given, what it answered, and how it stands.
-use Rattle.std.specs.Prelude.{◌≡◌, ℕ, ◌+◌, ◌≤◌, ◌<◌, Bool, true, false, List, [], ◌∷◌, ◌++◌, Option, Some, None, nat_le, if◌then◌else◌}
+use Rattle.std.specs.Prelude.{◌≡◌, ℕ, ◌+◌, ◌≤◌, ◌<◌, Bool, true, false, List, [], ◌∷◌, ◌++◌, Some, nat_le, if◌then◌else◌}
 use Rattle.performer_kit.specs.declared.commands.RobotCommand.{RobotCommand}
 use Rattle.performer_kit.specs.declared.commands.RobotCommand.TheVariants as robot
-use Rattle.performer_kit.specs.declared.commands.PenCommand.{PenCommand}
 use Rattle.performer_kit.specs.declared.commands.PenCommand.TheVariants as pen
 use Rattle.performer_kit.specs.declared.commands.Command.{Command}
 use Rattle.performer_kit.specs.declared.commands.Command.TheVariants.{Robot, Pen}

@@ -1,5 +1,5 @@
 -- How a machine goes on within a call.
-use Rattle.std.specs.Prelude.{◌≡◌, ℕ, ◌-◌, ◌+◌, ◌≤◌, List, Option, Some, None, Result, Ok, Err, IfOk, IfErr}
+use Rattle.std.specs.Prelude.{◌≡◌, ℕ, ◌-◌, ◌+◌, ◌≤◌, List, Some, None, Result, Ok, Err, IfOk, IfErr}
 use Rattle.km_base.specs.declared.Memory.{Memory}
 use Rattle.kumir_values.specs.declared.run_end.EndKind.{EndKind}
 use Rattle.kumir_values.specs.declared.run_end.EndKind.TheVariants as end

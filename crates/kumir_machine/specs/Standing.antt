@@ -1,6 +1,5 @@
 -- What holds of what a machine is at.
 use Rattle.std.specs.Prelude.{◌≡◌, ℕ, ◌≤◌, List, [], ◌∷◌, ◌++◌, Some}
-use Rattle.std.specs.Arc.{arc_value}
 use Rattle.performer_kit.specs.declared.commands.Command.TheVariants.{Robot, Pen}
 use Rattle.performer_kit.specs.declared.commands.Reply.{Reply}
 use Rattle.kumir_values.specs.Runs.{Act, Sent}

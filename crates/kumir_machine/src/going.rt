@@ -93,13 +93,7 @@ fn turn_after(came: Result<Reached, Memory>) -> Turn
 }
 
 /// Takes steps, and answers what they led to.
-fn go_on(
-    alloc: Global,
-    units: &[CodeUnit],
-    going: &mut Going,
-    budget: u32,
-    most: u32,
-) -> Advanced
+fn go_on(alloc: Global, units: &[CodeUnit], going: &mut Going, budget: u32, most: u32) -> Advanced
     requires valid { AllValid units.now }
     requires stage { IsStage units.now going.old.stage }
     requires within { going.old.steps ≤ budget }

@@ -80,10 +80,7 @@ impl Machine {
     pub fn awaits(&self) -> bool
         ensures { result ≡ owes self.now.stands }
     {
-        matches!(
-            self.going.phase,
-            Phase::OwesRobot(_) | Phase::OwesPen(_)
-        )
+        matches!(self.going.phase, Phase::OwesRobot(_) | Phase::OwesPen(_))
     }
 
     /// Gives the reply to the last command.

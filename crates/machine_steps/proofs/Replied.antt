@@ -72,7 +72,7 @@ wall_met units s q r b h test wall = (
     λ n replies. (
       1,
       ap (λ v. meet v (exec usual units 0) n (moment_of units s).inputs (r ∷ replies)) (asked units s q h)
-      ∙ ap (λ x. after_some (Sent (Robot q.command)) (after_reply x (exec usual units 0) n (moment_of units s).inputs replies)) (command_by (moment_of units s).state q r true test wall),
+          ∙ ap (λ x. after_some (Sent (Robot q.command)) (after_reply x (exec usual units 0) n (moment_of units s).inputs replies)) (command_by (moment_of units s).state q r true test wall),
     ),
   ),
 )
@@ -86,4 +86,3 @@ answered_stage units s new q value v h asks n = subst (IsStage units) (sym n) (r
   past = no_call_behind (unit_at units s.running.unit) s.running.pc (ready units (unit_at units s.running.unit) (valid_here units s.running v h.entered)) (ap is_step asks ∙ no_step_ask q);
   waits = h.waits;
 })
-

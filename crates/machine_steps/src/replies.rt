@@ -53,7 +53,11 @@ fn met_wall(reply: Reply) -> bool
 }
 
 /// Goes behind a command, whose value, if it gives one, is pushed.
-fn go_behind(units: &[CodeUnit], running: &mut Running, value: Option<Value>) -> Result<(), AllocError>
+fn go_behind(
+    units: &[CodeUnit],
+    running: &mut Running,
+    value: Option<Value>,
+) -> Result<(), AllocError>
     requires entered { IsEntered units.now running.old }
     requires there { IsAtLine units.now running.old }
     ensures { OnOk result (running.new ≡ with_answer running.old value) }
