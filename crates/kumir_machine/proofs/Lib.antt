@@ -1,3 +1,5 @@
 pub mod Courses
 pub mod Begun
 pub mod Calls
+pub mod Moving
+pub mod Existing

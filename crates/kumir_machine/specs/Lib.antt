@@ -1,3 +1,4 @@
 pub mod Course
 pub mod Going
 pub mod Standing
+pub mod Laws

@@ -3,7 +3,9 @@
 
 mod answer;
 mod going;
+mod laws;
 mod machine;
 
 pub use answer::Advanced;
+pub use laws::valid_code_has_a_trace;
 pub use machine::Machine;

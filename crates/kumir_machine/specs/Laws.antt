@@ -1,0 +1,13 @@
+-- What holds of the runs of valid code.
+use Rattle.std.specs.Prelude.{◌≡◌, ℕ, List, Some}
+use Rattle.performer_kit.specs.declared.commands.Reply.{Reply}
+use Rattle.kumir_values.specs.declared.value.Value.{Value}
+use Rattle.kumir_values.specs.Runs.{Trace}
+use Rattle.stack_code.specs.CodeRuns.{CodeRun}
+use Rattle.stack_code.specs.Validity.{IsValid, ValidCode}
+
+-- on all inputs and replies, for each number of steps, the run of valid code has a trace
+abbrev pub HasATrace : Type 0
+HasATrace =
+    (code : ValidCode) (entry : ℕ) (inputs : List Value) (replies : List Reply) (steps : ℕ)
+    → IsValid code.units code.entry → code.entry ≡ Some entry → (t : Trace) × CodeRun code.units entry inputs replies steps t
