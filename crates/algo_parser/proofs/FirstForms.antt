@@ -6,11 +6,11 @@ use Rattle.kumir_tree.specs.declared.token.Token.TheVariants as token
 use Rattle.kumir_tree.specs.declared.token.Key.TheVariants as key
 use Rattle.kumir_tree.specs.declared.token.Spanned.{Spanned}
 use Rattle.expr_forms.specs.Tokens.{tokens_of}
-use Rattle.algo_parser.specs.declared.pieces.Piece.{Piece}
-use Rattle.algo_parser.specs.Ends.{is_semicolon, Pieces}
-use Rattle.algo_parser.specs.Spans.{IsAlgorithmWord, BeginsUnit, FirstBegins}
+use Rattle.line_pieces.specs.declared.pieces.Piece.{Piece}
+use Rattle.line_pieces.specs.Ends.{is_semicolon, Pieces}
+use Rattle.line_pieces.specs.Spans.{IsAlgorithmWord, BeginsUnit, FirstBegins}
 use Rattle.algo_parser.specs.Units.{Heard, Understood, NotUnderstood, TooDeep, HearsAll, Said, Says, SayAll, piece_fault, piece_faults, form_at, forms_of}
-use Rattle.algo_parser.proofs.Firsts.{OneCutting}
+use Rattle.line_pieces.proofs.Firsts.{OneCutting}
 
 no_semicolon : (t : Token) → t ≡ token.Key key.Algorithm → is_semicolon t ≡ true → ⊥
 no_semicolon t e s = let h : is_semicolon (token.Key key.Algorithm) ≡ true = subst (λ u. is_semicolon u ≡ true) e s in let none : ⊥ = cc in none

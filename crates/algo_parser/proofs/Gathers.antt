@@ -6,7 +6,8 @@ use Rattle.std.proofs.lemmas.List.Concat.{flat_map-append}
 use Rattle.std.proofs.lemmas.List.Folds.{list_any-append}
 use Rattle.km_base.specs.declared.performers.Performers.{Performers}
 use Rattle.performer_kit.specs.Commands.{performer_named}
-use Rattle.algo_parser.specs.Hearing.{joined, heard_of, said_of, placed_of, IsGathered}
+use Rattle.unit_grammar.specs.Reading.{placed_of}
+use Rattle.algo_parser.specs.Hearing.{joined, heard_of, said_of, IsGathered}
 use Rattle.kumir_tree.specs.Parts.{some_head}
 use Rattle.algo_parser.specs.declared.heard.Said as code_said
 use Rattle.algo_parser.specs.declared.gathered.Gathered.{Gathered}

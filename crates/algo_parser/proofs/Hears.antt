@@ -10,8 +10,8 @@ use Rattle.kumir_lexer.specs.Cutting.{Cut}
 use Rattle.algo_parser.specs.declared.heard.Heard as code
 use Rattle.algo_parser.specs.declared.heard.Said as code_said
 use Rattle.algo_parser.specs.Hearing.{heard_of, said_of}
-use Rattle.algo_parser.specs.Ends.{IsPiece, ArePieces, Pieces}
-use Rattle.algo_parser.specs.declared.pieces.Piece.{Piece}
+use Rattle.line_pieces.specs.Ends.{IsPiece, ArePieces, Pieces}
+use Rattle.line_pieces.specs.declared.pieces.Piece.{Piece}
 use Rattle.algo_parser.specs.Units.{Heard, Hears, HearsAll, Said, Says, SayAll}
 
 pub piece_inside : (tokens : List Token) (at : ℕ) (ps : List Piece) (k : ℕ) (d : Piece) → ArePieces tokens at ps → k < length ps → IsPiece tokens (get_or ps k d)

@@ -1,15 +1,6 @@
-pub mod Blocks
-pub mod Led
-pub mod Prefixes
-pub mod Places
-pub mod Firsts
-pub mod Acts
-pub mod Steps
 pub mod Lengths
 pub mod Hears
 pub mod Gathers
-pub mod Reached
-pub mod Preludes
 pub mod Makes
 pub mod FirstForms
 pub mod Sounds

@@ -4,9 +4,10 @@ use Rattle.kumir_tree.specs.Unit.{Ending, Faulty, Known}
 use Rattle.kumir_tree.specs.Sound.{no_performers}
 use Rattle.kumir_tree.specs.Parts.{some_head}
 use Rattle.algo_parser.specs.declared.gathered.Gathered.{Gathered}
-use Rattle.algo_parser.specs.Structure.{StructureEnds}
+use Rattle.unit_grammar.specs.Structure.{StructureEnds}
 use Rattle.algo_parser.specs.Units.{Said, piece_faults, forms_of, Ends, Makes}
-use Rattle.algo_parser.specs.Hearing.{placed_of, IsGathered}
+use Rattle.unit_grammar.specs.Reading.{placed_of}
+use Rattle.algo_parser.specs.Hearing.{IsGathered}
 
 pub forms_left : (g : Gathered) (ss : List Said) (prelude : Bool) → IsGathered g ss → (prelude ≡ false → piece_faults 0 ss ≡ [] → forms_of 0 ss ≢ []) → prelude ≡ false → g.pieces ≡ [] → map placed_of g.forms.items ≢ []
 forms_left g ss prelude h some e p none = some e (sym h.pieces ∙ p) (sym h.forms ∙ none)

@@ -11,12 +11,12 @@ use Rattle.kumir_tree.specs.Piece.{Piece}
 use Rattle.kumir_tree.specs.Sound.{HasDimensions, SomeHead, FaultsHold, EndingHolds, EndsPrelude, EndsUnit}
 use Rattle.kumir_tree.specs.Unit.{Algorithm, Ending, Grown, Prelude, Faulty, Known}
 use Rattle.kumir_lexer.specs.declared.cutting.LexFault.{LexFault}
-use Rattle.algo_parser.specs.declared.pieces.Piece as range
-use Rattle.algo_parser.specs.Grammar.{Placed, IsUnit, unit}
-use Rattle.algo_parser.specs.Structure.{HasFault, misplaced, too_deep, not_closed, HasOther, other, UnitEnds, PreludeEnds}
+use Rattle.line_pieces.specs.declared.pieces.Piece as range
+use Rattle.unit_grammar.specs.Grammar.{Placed, IsUnit, unit}
+use Rattle.unit_grammar.specs.Structure.{HasFault, misplaced, too_deep, not_closed, HasOther, other, UnitEnds, PreludeEnds}
 use Rattle.algo_parser.specs.Units.{Heard, Understood, NotUnderstood, TooDeep, HearsAll, Said, SayAll, lexical_at, lexical_faults, piece_fault, piece_faults, form_at, forms_of, header_in, header_of, use_in, uses_on, uses_of, unknown_at, unknown_of, Ends, UnitReads, IsSoundRead}
-use Rattle.algo_parser.specs.Spans.{FirstBegins}
-use Rattle.algo_parser.proofs.Firsts.{OneCutting}
+use Rattle.line_pieces.specs.Spans.{FirstBegins}
+use Rattle.line_pieces.proofs.Firsts.{OneCutting}
 use Rattle.algo_parser.proofs.FirstForms.{says_some}
 use Rattle.algo_parser.proofs.Sounds.{FormHolds, form_holds, AllHold, parts, unit_holds}
 

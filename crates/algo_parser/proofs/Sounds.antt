@@ -15,9 +15,9 @@ use Rattle.kumir_tree.specs.Sound.{IsInputTarget, HasDimensions, SomeBounds, Dec
 use Rattle.kumir_tree.specs.Unit.{Algorithm}
 use Rattle.expr_forms.specs.Forms.{IsForm, header, tables, input, IsTarget, scalar_target, element_target, IsBounds, bounds, IsTable, table_name, Perhaps, missing, there, IsParam, param, IsParams, last_param, next_param, IsSignature, no_brackets, no_params, params}
 use Rattle.expr_forms.specs.Lists.{Listed, last, next}
-use Rattle.algo_parser.specs.Grammar as g
-use Rattle.algo_parser.specs.Grammar.{Placed, statement_of, loop_of, IsSeq, none, statement, block, IsBlock, loop, until, choose, choose_otherwise, select, select_otherwise, IsCases, first_case, next_case, IsGiven, IsWanted, IsUnit, unit}
-use Rattle.algo_parser.proofs.Blocks.{none_is}
+use Rattle.unit_grammar.specs.Grammar as g
+use Rattle.unit_grammar.specs.Grammar.{Placed, statement_of, loop_of, IsSeq, none, statement, block, IsBlock, loop, until, choose, choose_otherwise, select, select_otherwise, IsCases, first_case, next_case, IsGiven, IsWanted, IsUnit, unit}
+use Rattle.unit_grammar.proofs.Blocks.{none_is}
 
 -- ---- forms
 

@@ -1,21 +1,10 @@
 -- What lines say, as plain data.
-use Rattle.std.specs.Prelude.{◌≡◌, ◌||◌, Bool, true, false, List, [], ◌∷◌, map}
+use Rattle.std.specs.Prelude.{◌≡◌, ◌||◌, List, map}
 use Rattle.km_base.specs.declared.performers.Performers.{Performers}
-use Rattle.kumir_tree.specs.Piece as form
-use Rattle.kumir_tree.specs.Piece.{Piece}
 use Rattle.kumir_tree.specs.Pieces.{piece_of}
 use Rattle.kumir_tree.specs.Parts.{some_head}
-use Rattle.algo_parser.specs.Grammar.{Placed}
-use Rattle.kumir_tree.specs.Unit.{Ending, Grown, Faulty}
-use Rattle.kumir_tree.specs.Units.{algorithm_of}
-use Rattle.algo_parser.specs.Progress as reading
-use Rattle.algo_parser.specs.Views.{state_of}
-use Rattle.algo_parser.specs.declared.structure.Progress.{Progress}
-use Rattle.algo_parser.specs.declared.structure.Progress.TheVariants as p
-use Rattle.algo_parser.specs.declared.structure.Structure.{Structure}
-use Rattle.algo_parser.specs.declared.structure.Structure.TheVariants as s
+use Rattle.unit_grammar.specs.Reading.{placed_of}
 use Rattle.algo_parser.specs.Units as plain
-use Rattle.algo_parser.specs.declared.gathered.PlacedForm.{PlacedForm}
 use Rattle.algo_parser.specs.declared.gathered.Gathered.{Gathered}
 use Rattle.algo_parser.specs.declared.heard.Heard.{Heard}
 use Rattle.algo_parser.specs.declared.heard.Heard.TheVariants as h
@@ -28,11 +17,6 @@ heard_of h.TooDeep = plain.TooDeep
 
 abbrev pub said_of : Said → plain.Said
 said_of s = record { fault = s.fault; pieces = map heard_of s.pieces.items }
-
--- ---- forms with their lines
-
-abbrev pub placed_of : PlacedForm → Placed
-placed_of p = (p.line, piece_of p.form)
 
 -- ---- what was gathered from lines
 
@@ -48,17 +32,3 @@ pub record IsGathered (g : Gathered) (said : List plain.Said) : Type 0 where
 -- the performers of both
 abbrev pub joined : Performers → Performers → Performers
 joined p q = record { robot = p.robot || q.robot; pen = p.pen || q.pen }
-
--- ---- how far the forms of a unit are read, and what they make
-
-abbrev pub progress_of : Progress → reading.Progress
-progress_of (p.Going s last) = reading.Going (state_of s) last
-progress_of (p.Stopped fault) = reading.Stopped fault
-
-abbrev pub structure_ending : Structure → Ending
-structure_ending (s.Tree tree) = Grown (algorithm_of tree)
-structure_ending (s.Fault fault) = Faulty (fault ∷ [])
-
-abbrev pub is_use : Piece → Bool
-is_use (form.Uses x) = true
-is_use other = false

@@ -1,11 +1,2 @@
-pub mod Ends
-pub mod Spans
-pub mod Grammar
-pub mod Stages
-pub mod Structure
 pub mod Units
-pub mod Machine
-pub mod Views
-pub mod Kinds
 pub mod Hearing
-pub mod Progress

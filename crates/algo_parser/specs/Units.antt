@@ -19,10 +19,10 @@ use Rattle.expr_forms.specs.Tokens.{tokens_of}
 use Rattle.expr_forms.specs.Brackets.{IsDeep}
 use Rattle.expr_forms.specs.Forms.{IsForm}
 use Rattle.expr_forms.specs.Answers.{HasNoForm}
-use Rattle.algo_parser.specs.declared.pieces.Piece as range
-use Rattle.algo_parser.specs.Ends.{Pieces}
-use Rattle.algo_parser.specs.Grammar.{Placed}
-use Rattle.algo_parser.specs.Structure.{StructureEnds}
+use Rattle.line_pieces.specs.declared.pieces.Piece as range
+use Rattle.line_pieces.specs.Ends.{Pieces}
+use Rattle.unit_grammar.specs.Grammar.{Placed}
+use Rattle.unit_grammar.specs.Structure.{StructureEnds}
 
 -- ---- what a line says
 

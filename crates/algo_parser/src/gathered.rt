@@ -3,9 +3,10 @@
 ghost use Rattle.std.specs.Prelude.{◌≡◌, ◌<◌, ◌++◌, ◌∷◌, ◌||◌, [], length, map, OnOk, IfOk};
 ghost use Rattle.std.specs.List.{flat_map};
 ghost use Rattle.kumir_tree.specs.Parts.{some_head};
-ghost use Rattle.algo_parser.specs.Spans.{AreShort};
+ghost use Rattle.line_pieces.specs.Spans.{AreShort};
 ghost use Rattle.algo_parser.specs.Units as units;
-ghost use Rattle.algo_parser.specs.Hearing.{joined, heard_of, said_of, placed_of, IsGathered};
+ghost use Rattle.unit_grammar.specs.Reading.{placed_of};
+ghost use Rattle.algo_parser.specs.Hearing.{joined, heard_of, said_of, IsGathered};
 ghost use Rattle.performer_kit.specs.Commands.{performer_named};
 
 use crate::heard::{Heard, Said, read_line};
@@ -15,13 +16,7 @@ use kumir_tree::{Fault, Faults, Form, Header, Line};
 use performer_kit::performer_of_name;
 use sqlite_items::Items;
 use std::alloc::{AllocError, Global};
-
-/// A form and its line.
-#[derive(Drop)]
-pub struct PlacedForm {
-    pub line: u32,
-    pub form: Form,
-}
+use unit_grammar::PlacedForm;
 
 /// Faults, forms, the header and the performers of some lines. Lines count from 0.
 #[derive(Drop)]

@@ -3,15 +3,15 @@
 ghost use Rattle.std.specs.Prelude.{◌≡◌, ◌≢◌, ◌<◌, ◌≤◌, ◌++◌, ◌∷◌, [], length, map, slice_range, IfOk, OnOk};
 ghost use Rattle.std.specs.Str.{encode_utf8_all};
 ghost use Rattle.expr_forms.specs.Tokens.{tokens_of};
-ghost use Rattle.algo_parser.specs.Ends as ends;
+ghost use Rattle.line_pieces.specs.Ends as ends;
 ghost use Rattle.algo_parser.specs.Units.{Hears, HearsAll, Says};
 ghost use Rattle.algo_parser.specs.Hearing.{heard_of, said_of};
 
-use crate::pieces::{Piece, cut_pieces};
 use expr_forms::{PieceFault, read_piece};
 use km_base::Memory;
 use kumir_lexer::{LexFault, lex_line};
 use kumir_tree::{Form, Line, Spanned};
+use line_pieces::{Piece, cut_pieces};
 use std::alloc::{AllocError, Global};
 
 /// What a piece turns out to be.

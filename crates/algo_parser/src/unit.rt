@@ -2,20 +2,21 @@
 
 ghost use Rattle.std.specs.Prelude.{◌≡◌, ◌≢◌, ◌<◌, ◌+◌, [], ◌∷◌, length, map, true, false, IfOk};
 ghost use Rattle.kumir_tree.specs.Units.{ending_of, known_of};
-ghost use Rattle.algo_parser.specs.Spans.{AreShort, FirstBegins};
+ghost use Rattle.line_pieces.specs.Spans.{AreShort, FirstBegins};
 ghost use Rattle.kumir_tree.specs.Unit.{Faulty};
-ghost use Rattle.algo_parser.specs.Structure.{PreludeEnds, UnitEnds, StructureEnds};
+ghost use Rattle.unit_grammar.specs.Structure.{PreludeEnds, UnitEnds, StructureEnds};
 ghost use Rattle.algo_parser.specs.Units as units;
 ghost use Rattle.algo_parser.specs.Units.{Makes, UnitReads, IsSoundRead};
-ghost use Rattle.algo_parser.specs.Hearing.{said_of, placed_of, IsGathered};
+ghost use Rattle.unit_grammar.specs.Reading.{placed_of};
+ghost use Rattle.algo_parser.specs.Hearing.{said_of, IsGathered};
 
-use crate::gathered::{Gathered, PlacedForm, gather};
-use crate::structure::{Structure, grow, misplaced};
+use crate::gathered::{Gathered, gather};
 use km_base::{Ledger, Memory, Performers, Steps};
 use kumir_lexer::one_cutting;
 use kumir_tree::{Fault, Faults, Line, Outcome, UnitRead};
 use sqlite_items::Items;
 use std::alloc::{AllocError, Global};
+use unit_grammar::{PlacedForm, Structure, grow, misplaced};
 
 fn one_fault(alloc: Global, fault: Fault) -> Result<Outcome, AllocError>
     ensures { IfOk result (λ o. ending_of o ≡ Faulty (fault ∷ [])) }

@@ -3,7 +3,7 @@ use Rattle.std.proofs.Common.{◌≡◌, ℕ, zero, suc, ◌+◌, ◌<◌, ◌�
 use Rattle.std.proofs.lemmas.Bool.{eqb-true, eqb-false}
 use Rattle.std.proofs.lemmas.List.{take_more, take_all, map-append}
 use Rattle.kumir_tree.specs.Unit.{Known}
-use Rattle.algo_parser.specs.declared.spans.LineSpan.{LineSpan}
+use Rattle.line_pieces.specs.declared.spans.LineSpan.{LineSpan}
 use Rattle.incr_analysis.specs.Full.{Along}
 
 -- whether the first unit is still to come

@@ -3,8 +3,8 @@ use Rattle.std.proofs.Common.{◌≡◌, ℕ, zero, suc, ◌+◌, ◌-◌, ◌<�
 use Rattle.std.specs.List.{AllByRecursion, slice_range}
 use Rattle.std.proofs.lemmas.List.{length-take-le, length-drop, take_more, drop_more}
 use Rattle.std.proofs.lemmas.List.Elements.{All-take, All-drop}
-use Rattle.algo_parser.specs.declared.spans.LineSpan.{LineSpan}
-use Rattle.algo_parser.specs.Spans.{BeginsUnit, IsUnitSpan, Cover, AreSpans, AreShort, FirstBegins}
+use Rattle.line_pieces.specs.declared.spans.LineSpan.{LineSpan}
+use Rattle.line_pieces.specs.Spans.{BeginsUnit, IsUnitSpan, Cover, AreSpans, AreShort, FirstBegins}
 use Rattle.incr_analysis.specs.Full.{lines_in}
 
 nothing : LineSpan

@@ -7,8 +7,8 @@ use Rattle.kumir_tree.specs.Part.{Limits, Head}
 use Rattle.kumir_tree.specs.Program.{Stmt, Act, Stands, Declare, Assign, Invoke, Times, While, Count, Forever, Until, Choose, Select, Assert, Input, Output, Leave, Quit, Block, done, ◌next◌, Arms, no_arms, arm}
 use Rattle.kumir_tree.specs.Unit.{Known, Ending, Grown, Prelude, Faulty}
 use Rattle.kumir_tree.specs.Sound.{ActHolds, StmtHolds, BlockHolds, ArmsHold, ClaimHolds, FaultsHold, EndingHolds, SomeHead, HeadHolds, KnownHolds, HasDimensions, IsUnitRead, IsPreludeRead, IsPlaced, IsSound}
-use Rattle.algo_parser.specs.declared.spans.LineSpan.{LineSpan}
-use Rattle.algo_parser.specs.Spans.{AreSpans}
+use Rattle.line_pieces.specs.declared.spans.LineSpan.{LineSpan}
+use Rattle.line_pieces.specs.Spans.{AreSpans}
 use Rattle.algo_parser.specs.Units.{IsSoundRead}
 use Rattle.incr_analysis.specs.Full.{Along}
 use Rattle.incr_analysis.specs.Answers.{IsSoundAt}

@@ -6,7 +6,7 @@ use Rattle.kumir_tree.specs.declared.unit.PlacedUnit.{PlacedUnit}
 use Rattle.margins.specs.declared.margin.Mark.{Mark}
 use Rattle.type_check.specs.declared.refusal.CleanRefusal.{CleanRefusal}
 use Rattle.type_check.specs.declared.refusal.CleanRefusal.TheVariants as refusal
-use Rattle.algo_parser.specs.declared.spans.LineSpan.{LineSpan}
+use Rattle.line_pieces.specs.declared.spans.LineSpan.{LineSpan}
 use Rattle.algo_parser.specs.Units.{IsSoundRead}
 use Rattle.incr_analysis.specs.Full.{Full}
 use Rattle.incr_analysis.specs.Seen.{AnalysedText}

@@ -3,8 +3,8 @@ use Rattle.std.specs.Prelude.{◌≡◌, ℕ, ◌+◌, Bool, true, false, List, 
 use Rattle.kumir_tree.specs.Part.{Head, Formal}
 use Rattle.kumir_tree.specs.Unit.{Known}
 use Rattle.margins.specs.declared.margin.Mark.{Mark}
-use Rattle.algo_parser.specs.declared.spans.LineSpan.{LineSpan}
-use Rattle.algo_parser.specs.Spans.{AreSpans}
+use Rattle.line_pieces.specs.declared.spans.LineSpan.{LineSpan}
+use Rattle.line_pieces.specs.Spans.{AreSpans}
 use Rattle.algo_parser.specs.Units.{UnitReads}
 use Rattle.type_check.specs.Margin.{program_faults, IsMarginOf, first_head}
 

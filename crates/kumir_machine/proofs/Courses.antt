@@ -44,7 +44,7 @@ quiet xs a e = acts_joined xs (a ∷ []) ∙ ap (λ l. acts_in xs ++ l) e ∙ ap
 
 -- ---- runs from a moment to which a run has come
 
-steps_left : (taken n : ℕ) → taken ≤ n → taken + (n - taken) ≡ n
+pub steps_left : (taken n : ℕ) → taken ≤ n → taken + (n - taken) ≡ n
 steps_left taken n le = omega (arith, le)
 
 pub begins_by : (units : List CodeUnit) (entry taken n : ℕ) (inputs : List Value) (given : List Reply) (acts : List Act) (b : Moment) → Comes units (at (start entry) inputs) taken given acts b → taken ≤ n
@@ -104,7 +104,7 @@ pub ends_only : (c : Course) (entry : ℕ) (b : Moment) (e : RunState) (end : En
     → end_of e ≡ Some end → EndsIn c.code.units b e → HasEnded end c
 ends_only c entry b e end is p eo h = (e, eo, λ n le within. let x = h.1 (n - c.steps) [] in runs_only c entry n x.0 b e is p le x.1)
 
-nothing_left : (m n : ℕ) → n ≡ m → n - m ≡ 0
+pub nothing_left : (m n : ℕ) → n ≡ m → n - m ≡ 0
 nothing_left m n e = omega (arith, e)
 
 pub goes_only : (c : Course) (entry n : ℕ) (b : Moment) → c.code.entry ≡ Some entry → Comes c.code.units (at (start entry) c.inputs) c.steps c.replies (acts_in c.answers) b

@@ -92,15 +92,15 @@ pub fn call(alloc: Global, place: CallPlace) -> Result<Instruction, AllocError> 
     Ok(Instruction::Call(1, places))
 }
 
-/// `цел i`, `нц для i от 1 до 2`, `вывод i`, `кц`, with another step of the loop.
-pub fn counting(alloc: Global, step: i32) -> Result<CodeUnits, AllocError> {
+/// `цел i`, `нц для i от first до last шаг step`, `вывод i`, `кц`.
+pub fn counting(alloc: Global, first: i32, last: i32, step: i32) -> Result<CodeUnits, AllocError> {
     alone(
         alloc,
         [
             (3, Instruction::Step),
             (4, Instruction::Step),
-            (4, number(1)),
-            (4, number(2)),
+            (4, number(first)),
+            (4, number(last)),
             (4, number(step)),
             (4, Instruction::Turns(3)),
             (4, Instruction::Step),

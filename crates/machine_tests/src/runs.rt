@@ -18,15 +18,31 @@ const USUAL: Given = Given {
 #[test]
 fn steps_are_taken_within_the_budget(rt: HostRuntime) -> Result<(), Fail> {
     let alloc = rt.alloc();
-    for (step, budget, most, wanted) in [
-        (1, 7, 100, "12 Done 7"),
-        (1, 6, 100, "12 Steps 6"),
-        (1, 5, 100, "1 Steps 5"),
-        (1, 0, 100, " Steps 0"),
-        (1, 7, 3, " 3..12 Done 7"),
-        (1, 7, 1, " 1.. 2.. 3..1 5..2 Done 7"),
-        (0, 7, 100, " Fault { line: 4, fault: StepZero } 2"),
-        (-1, 7, 100, " Done 3"),
+    for (first, last, step, budget, most, wanted) in [
+        (1, 2, 1, 7, 100, "12 Done 7"),
+        (1, 2, 1, 6, 100, "12 Steps 6"),
+        (1, 2, 1, 5, 100, "1 Steps 5"),
+        (1, 2, 1, 0, 100, " Steps 0"),
+        (1, 2, 1, 7, 3, " 3..12 Done 7"),
+        (1, 2, 1, 7, 1, " 1.. 2.. 3..1 5..2 Done 7"),
+        (1, 2, 0, 7, 100, " Fault { line: 4, fault: StepZero } 2"),
+        (1, 2, -1, 7, 100, " Done 3"),
+        (
+            2147483646,
+            2147483647,
+            1,
+            7,
+            100,
+            "21474836462147483647 Done 7",
+        ),
+        (
+            -2147483647,
+            -2147483648,
+            -1,
+            7,
+            100,
+            "-2147483647-2147483648 Done 7",
+        ),
     ] {
         let given = Given {
             budget,
@@ -34,7 +50,7 @@ fn steps_are_taken_within_the_budget(rt: HostRuntime) -> Result<(), Fail> {
             ..USUAL
         };
         assert_eq!(rt;
-            story(alloc, counting(alloc, step)?, given)?.as_str(),
+            story(alloc, counting(alloc, first, last, step)?, given)?.as_str(),
             wanted
         );
     }

@@ -12,8 +12,6 @@ mod locals;
 mod margin;
 mod parts;
 mod refusal;
-#[cfg(test)]
-mod tests;
 mod uses;
 
 pub use check::{UnitFaults, check_unit};

@@ -1,7 +1,8 @@
 use Rattle.std.proofs.Common.{◌≡◌, ◌++◌, map}
 use Rattle.std.specs.List.{flat_map}
 use Rattle.algo_parser.specs.Units.{form_at}
-use Rattle.algo_parser.specs.Hearing.{heard_of, placed_of}
+use Rattle.unit_grammar.specs.Reading.{placed_of}
+use Rattle.algo_parser.specs.Hearing.{heard_of}
 use Rattle.algo_parser.proofs.gathered.add_forms.Given as goal
 
 abbrev pub invariant-loop-piece : goal.invariant-loop-piece

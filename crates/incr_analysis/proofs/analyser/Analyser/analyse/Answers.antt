@@ -1,6 +1,6 @@
 use Rattle.std.proofs.Common.{◌≡◌, ◌<◌, ℕ, List, length, sym, subst, ◌∙◌, ap}
 use Rattle.kumir_tree.specs.Units.{units_of}
-use Rattle.algo_parser.specs.Spans.{AreSpans}
+use Rattle.line_pieces.specs.Spans.{AreSpans}
 use Rattle.incr_analysis.specs.Full.{Along}
 use Rattle.incr_analysis.specs.Answers.{IsSoundAt}
 use Rattle.incr_analysis.proofs.Sounds.{spans_sound}

@@ -1,5 +1,0 @@
-use Rattle.algo_parser.specs.Spans.{NoneBegins}
-use Rattle.algo_parser.proofs.spans.span_end.Given as goal
-
-abbrev pub invariant-loop-at : goal.invariant-loop-at
-invariant-loop-at l = NoneBegins l.lines l.from l.at

@@ -1,7 +1,0 @@
-use Rattle.std.proofs.Common.{◌≡◌, map}
-use Rattle.algo_parser.specs.Hearing.{placed_of, progress_of}
-use Rattle.algo_parser.specs.Progress.{read_all}
-use Rattle.algo_parser.proofs.structure.read_all.Given as goal
-
-abbrev pub invariant-loop-placed : goal.invariant-loop-placed
-invariant-loop-placed l = progress_of l.progress ≡ read_all (map placed_of l.yielded)

@@ -1,0 +1,5 @@
+use Rattle.line_pieces.specs.Spans.{NoneBegins}
+use Rattle.line_pieces.proofs.spans.span_end.Given as goal
+
+abbrev pub invariant-loop-at : goal.invariant-loop-at
+invariant-loop-at l = NoneBegins l.lines l.from l.at

@@ -1,0 +1,5 @@
+//! Tests of pieces and units over lines of text.
+#![tactic(auto)]
+
+#[cfg(test)]
+mod tests;

@@ -1,0 +1,130 @@
+ghost use Rattle.std.specs.Prelude.{◌≤◌, length, IsTrue};
+ghost use Rattle.line_pieces.specs.Spans.{AreShort};
+
+use km_base::Memory;
+use kumir_lexer::lex_line;
+use kumir_tree::Line;
+use line_pieces::{LineSpan, Piece, cut_pieces, split_units};
+use std::alloc::{AllocError, Global};
+use std::test::Fail;
+
+// The tests' lines have at most this many bytes.
+const SHORT: usize = 1_000;
+
+const LIMIT: usize = 4_294_967_295;
+
+// Whether the line has these pieces.
+fn has_pieces(alloc: Global, line: &str, expected: &[(u32, u32)]) -> Result<bool, Memory>
+    requires { length line.now ≤ SHORT }
+{
+    let found = lex_line(alloc, line)?;
+    if found.tokens.len() >= LIMIT {
+        return Ok(false);
+    }
+    let pieces = cut_pieces(alloc, &found)?;
+    Ok(are_pieces(pieces.as_slice(), expected))
+}
+
+fn are_pieces(pieces: &[Piece], expected: &[(u32, u32)]) -> bool {
+    for (piece, (from, to)) in pieces.iter().zip(expected) {
+        if piece.from != *from || piece.to != *to {
+            return false;
+        }
+    }
+    pieces.len() == expected.len()
+}
+
+const LINES: [(&str, &[(u32, u32)]); 13] = [
+    ("", &[]),
+    (";;", &[]),
+    ("; a;; b ;", &[(1, 2), (4, 5)]),
+    ("алг нач кон", &[(0, 1), (1, 2), (2, 3)]),
+    ("нц 10 раз влево кц", &[(0, 3), (3, 4), (4, 5)]),
+    (
+        "если а то б иначе в все",
+        &[(0, 2), (2, 3), (3, 4), (4, 5), (5, 6), (6, 7)],
+    ),
+    ("нц для i от 1 до 2 шаг 1 вывод i, нс", &[(0, 9), (9, 13)]),
+    ("при a[1:2] = 1: x", &[(0, 10), (10, 11)]),
+    ("при (1:2) = 1:", &[(0, 4), (4, 9)]),
+    ("при ]: x: y", &[(0, 3), (3, 6)]),
+    ("кц при да: x", &[(0, 5)]),
+    ("кц; при да: x", &[(0, 1), (2, 5), (5, 6)]),
+    (
+        "выбор при да: выход кц_при да",
+        &[(0, 1), (1, 4), (4, 5), (5, 7)],
+    ),
+];
+
+#[test]
+fn lines_are_cut_into_pieces(rt: HostRuntime) -> Result<(), Fail> {
+    for (line, expected) in LINES {
+        assert!(rt; line.len() <= SHORT);
+        assert!(rt; has_pieces(rt.alloc(), line, expected)?, "at {line}");
+    }
+    Ok(())
+}
+
+// The line with this text, which has no line feed.
+fn line_of(alloc: Global, text: &str) -> Result<Line, AllocError> {
+    if text.contains('\n') {
+        return Err(AllocError);
+    }
+    Line::new(alloc, text)
+}
+
+fn all_short(lines: &[Line]) -> bool
+    ensures { IsTrue result → AreShort lines.now }
+{
+    for line in lines {
+        if line.as_str().len() >= LIMIT {
+            return false;
+        }
+    }
+    true
+}
+
+// Whether the lines of the text have these spans.
+fn has_spans(alloc: Global, text: &str, expected: &[(u32, u32)]) -> Result<bool, Memory> {
+    let mut lines = Vec::new(alloc);
+    for line in text.lines() {
+        lines.push(line_of(alloc, line)?).map_err(AllocError::from)?;
+    }
+    if lines.len() >= LIMIT || !all_short(&lines) {
+        return Ok(false);
+    }
+    let spans = split_units(alloc, &lines)?;
+    Ok(are_spans(spans.as_slice(), expected))
+}
+
+fn are_spans(spans: &[LineSpan], expected: &[(u32, u32)]) -> bool {
+    for (span, (first, count)) in spans.iter().zip(expected) {
+        if span.first != *first || span.count != *count {
+            return false;
+        }
+    }
+    spans.len() == expected.len()
+}
+
+const TEXTS: [(&str, &[(u32, u32)]); 6] = [
+    ("", &[(0, 0)]),
+    ("a\n\nb", &[(0, 3)]),
+    ("алг\nнач\nкон", &[(0, 0), (0, 3)]),
+    (
+        "использовать Робот\n; алг\nнач алг\n алг x\nнач",
+        &[(0, 3), (3, 2)],
+    ),
+    (
+        "алг 'x\nкон\nалг | 'x\nалг",
+        &[(0, 0), (0, 2), (2, 1), (3, 1)],
+    ),
+    ("'x алг\nалгоритм\nАлг\nалг\n", &[(0, 3), (3, 1)]),
+];
+
+#[test]
+fn units_begin_at_their_first_word(rt: HostRuntime) -> Result<(), Fail> {
+    for (text, expected) in TEXTS {
+        assert!(rt; has_spans(rt.alloc(), text, expected)?, "at {text}");
+    }
+    Ok(())
+}

@@ -1,0 +1,5 @@
+//! Tests of names and types over trees.
+#![tactic(auto)]
+
+#[cfg(test)]
+mod rules;

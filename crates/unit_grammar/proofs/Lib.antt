@@ -1,0 +1,7 @@
+pub mod Blocks
+pub mod Led
+pub mod Prefixes
+pub mod Acts
+pub mod Steps
+pub mod Reached
+pub mod Preludes

@@ -1,0 +1,12 @@
+//! The grammar of units over the forms of their pieces: the tree of a unit, or its first structure fault.
+#![tactic(auto)]
+
+mod frames;
+mod laws;
+mod placed;
+mod states;
+mod structure;
+
+pub use laws::{begins_unit, one_algorithm};
+pub use placed::PlacedForm;
+pub use structure::{Structure, grow, misplaced};
