@@ -6,8 +6,6 @@ mod fronts;
 mod line;
 mod print;
 mod spelling;
-#[cfg(test)]
-mod tests;
 
 pub use cutting::{Class, LexFault, LineTokens};
 pub use line::{lex_line, one_cutting};

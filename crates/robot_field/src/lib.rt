@@ -4,8 +4,6 @@
 mod field;
 mod laws;
 mod side;
-#[cfg(test)]
-mod tests;
 mod text;
 
 pub use field::{Field, FieldRefusal};

@@ -9,8 +9,6 @@ mod laws;
 mod lines;
 mod operands;
 mod shapes;
-#[cfg(test)]
-mod tests;
 mod unit;
 
 pub use code::{Code, valid};

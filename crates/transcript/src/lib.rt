@@ -11,8 +11,6 @@ mod margin;
 mod print;
 mod ranges;
 mod reports;
-#[cfg(test)]
-mod tests;
 mod words;
 
 pub use entries::{TranscriptRefusal, one_print, read_entries};

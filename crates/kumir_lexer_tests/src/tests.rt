@@ -1,7 +1,7 @@
 ghost use Rattle.std.specs.Prelude.{◌≤◌, length};
 
-use crate::{lex_line, print_tokens};
 use km_base::Memory;
+use kumir_lexer::{lex_line, print_tokens};
 use std::alloc::Global;
 use std::test::Fail;
 

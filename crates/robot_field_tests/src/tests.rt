@@ -1,6 +1,6 @@
-use crate::{Field, FieldRefusal};
 use kumir_tree::Line;
 use performer_kit::{Reply, RobotCommand};
+use robot_field::{Field, FieldRefusal};
 use std::alloc::{AllocError, Global};
 use std::test::Fail;
 

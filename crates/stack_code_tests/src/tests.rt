@@ -1,9 +1,9 @@
-use crate::{
-    CallPlace, CodeLine, CodeLines, CodeUnit, CodeUnits, Instruction, ParamSlot, Shape, valid,
-};
 use kumir_tree::{Kind, Mode};
 use kumir_values::Value;
 use sqlite_items::Items;
+use stack_code::{
+    CallPlace, CodeLine, CodeLines, CodeUnit, CodeUnits, Instruction, ParamSlot, Shape, valid,
+};
 use std::alloc::{AllocError, Global};
 use std::test::Fail;
 

@@ -1,5 +1,3 @@
-use crate::line::read_line;
-use crate::{Entry, TranscriptRefusal, print_entry, read_entries};
 use km_base::Memory;
 use kumir_tree::Chars;
 use kumir_values::{EndKind, RunFault};
@@ -7,6 +5,7 @@ use margins::{Margin, Mark};
 use performer_kit::{PenCommand, Reply, RobotCommand, Segment};
 use std::alloc::{AllocError, Global};
 use std::test::Fail;
+use transcript::{Entry, TranscriptRefusal, print_entry, read_entries};
 
 fn chars(alloc: Global, text: &str) -> Result<Chars, AllocError> {
     let mut chars = Vec::new(alloc);
@@ -141,38 +140,42 @@ fn runs_print_as_lines(rt: HostRuntime) -> Result<(), Fail> {
     Ok(())
 }
 
-/// Whether the line is read as an entry that prints as it.
-fn reads(alloc: Global, line: &str) -> Result<bool, Memory> {
-    match read_line(alloc, line)? {
-        Some(_) => Ok(true),
-        None => Ok(false),
+/// The first line that no entry prints, and 0 where each line is one of an entry.
+fn first_bad(alloc: Global, bytes: &[u8]) -> Result<u32, Memory> {
+    if bytes.len() > 1_000 {
+        return Err(Memory);
+    }
+    match read_entries(alloc, bytes) {
+        Ok(_) => Ok(0),
+        Err(TranscriptRefusal::NotEntry { line }) => Ok(line),
+        Err(TranscriptRefusal::Memory) => Err(Memory),
     }
 }
 
 #[test]
 fn lines_of_entries_are_read(rt: HostRuntime) -> Result<(), Fail> {
     let lines = [
-        "edit 2",
-        "edit refused many",
-        "field ok",
-        "field bad 1",
-        "run 1 12",
-        "run refused busy",
-        "stop 1",
-        "stop idle",
-        "waited",
-        "margin 6 6:402 8:402",
-        "margin 0",
-        "refused 1 main",
-        "out 1 а\\\\\\nб ",
-        "robot 1 7 справа_свободно нет",
-        "pen 1 3 сместиться_на_вектор 1 -2 line 1 -2 2147483648 -4",
-        "pen 1 4 поднять_перо done",
-        "end 2 fault 4 input-type",
-        "bye",
+        "edit 2\n",
+        "edit refused many\n",
+        "field ok\n",
+        "field bad 1\n",
+        "run 1 12\n",
+        "run refused busy\n",
+        "stop 1\n",
+        "stop idle\n",
+        "waited\n",
+        "margin 6 6:402 8:402\n",
+        "margin 0\n",
+        "refused 1 main\n",
+        "out 1 а\\\\\\nб \n",
+        "robot 1 7 справа_свободно нет\n",
+        "pen 1 3 сместиться_на_вектор 1 -2 line 1 -2 2147483648 -4\n",
+        "pen 1 4 поднять_перо done\n",
+        "end 2 fault 4 input-type\n",
+        "bye\n",
     ];
     for line in lines {
-        assert!(rt; reads(rt.alloc(), line)?, "{line}");
+        assert_eq!(rt; first_bad(rt.alloc(), line.as_bytes())?, 0, "{line}");
     }
     Ok(())
 }
@@ -180,22 +183,22 @@ fn lines_of_entries_are_read(rt: HostRuntime) -> Result<(), Fail> {
 #[test]
 fn other_spellings_are_not_read(rt: HostRuntime) -> Result<(), Fail> {
     let lines = [
-        "",
-        "edit 02",
-        "edit +2",
-        "edit  2",
-        "edit",
-        "bye ",
-        "edit 4294967296",
-        "margin 6 8:402 6:402",
-        "out 1",
-        "out 1 \\а",
-        "robot 1 7 вверх line 0 0 1 1",
-        "pen 1 3 сместиться_на_вектор 1 -0 done",
-        "end 2 fault 4 input",
+        "\n",
+        "edit 02\n",
+        "edit +2\n",
+        "edit  2\n",
+        "edit\n",
+        "bye \n",
+        "edit 4294967296\n",
+        "margin 6 8:402 6:402\n",
+        "out 1\n",
+        "out 1 \\а\n",
+        "robot 1 7 вверх line 0 0 1 1\n",
+        "pen 1 3 сместиться_на_вектор 1 -0 done\n",
+        "end 2 fault 4 input\n",
     ];
     for line in lines {
-        assert!(rt; !reads(rt.alloc(), line)?, "{line}");
+        assert_eq!(rt; first_bad(rt.alloc(), line.as_bytes())?, 1, "{line}");
     }
     Ok(())
 }
@@ -207,18 +210,6 @@ fn a_transcript_is_read_whole(rt: HostRuntime) -> Result<(), Fail> {
     assert!(rt; text.len() < 1_000);
     assert_eq!(rt; read_entries(rt.alloc(), text.as_bytes())?.len(), 15);
     Ok(())
-}
-
-/// The first line that no entry prints, and 0 where each line is one of an entry.
-fn first_bad(alloc: Global, bytes: &[u8]) -> Result<u32, Memory> {
-    if bytes.len() > 1_000 {
-        return Err(Memory);
-    }
-    match read_entries(alloc, bytes) {
-        Ok(_) => Ok(0),
-        Err(TranscriptRefusal::NotEntry { line }) => Ok(line),
-        Err(TranscriptRefusal::Memory) => Err(Memory),
-    }
 }
 
 #[test]

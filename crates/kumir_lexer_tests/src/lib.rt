@@ -1,0 +1,5 @@
+//! Tests of lines cut into tokens.
+#![tactic(auto)]
+
+#[cfg(test)]
+mod tests;

@@ -1,0 +1,5 @@
+//! Tests of which code is valid.
+#![tactic(auto)]
+
+#[cfg(test)]
+mod tests;
