@@ -68,7 +68,7 @@ module _ (L M : ℕ → Type 0) (B : Limits → Type 0) (up : (n : ℕ) → L n 
 
 placed : (lines : ℕ) (prelude : Bool) (span : LineSpan) (u : ℕ × Known) → lines < 4294967295 → IsSoundAt lines prelude span u → KnownHolds (λ line. line < span.count) HasDimensions u.1 → IsPlaced u
 placed lines prelude span u few at holds =
-    (omega (arith, at.place), known_up (λ line. line < span.count) (λ line. u.0 + line ≤ 4294967295) HasDimensions (λ n lt. omega (arith, lt, at.place, at.within, few)) u.1 holds)
+    (omega (arith, at.place, at.from_one), known_up (λ line. line < span.count) (λ line. u.0 + line ≤ 4294967295) HasDimensions (λ n lt. omega (arith, lt, at.place, at.within, few)) u.1 holds)
 
 units_sound : (lines : ℕ) (spans : List LineSpan) (units : List (ℕ × Known)) → lines < 4294967295 → Along (IsSoundAt lines) false spans units → AllByRecursion (λ u. IsUnitRead u.1 × IsPlaced u) units
 units_sound lines [] [] few a = tt
