@@ -90,9 +90,10 @@ impl Analysed {
     }
 
     // The header of the first algorithm.
-    #[tactic(auto, using(type_check::proofs::First::main_found, type_check::proofs::First::no_main))]
+    #[tactic(auto, using(type_check::proofs::First::main_found, type_check::proofs::First::no_main, crate::proofs::Shown::shown_units))]
     fn first_header(&self) -> Option<&Header>
-        ensures { some_head_behind result ≡ first_head (units_in self.now.units) }
+        ensures header { some_head_behind result ≡ first_head (units_in self.now.units) }
+        ensures of_text { AreUnits self.now.text (units_in self.now.units) }
     {
         match self.units.get(1) {
             Some(unit) => header_of(unit),
@@ -101,7 +102,6 @@ impl Analysed {
     }
 
     /// Whether there is a first algorithm and it has no parameters. The margin has no mark.
-    #[tactic(auto, using(crate::proofs::Shown::shown_units))]
     pub fn has_main(&self) -> bool
         requires { self.now.margin ≡ [] }
         ensures main { result ≡ has_main (units_in self.now.units) }
