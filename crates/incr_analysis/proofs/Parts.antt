@@ -1,11 +1,8 @@
 -- The lines of a span.
-use Rattle.std.proofs.Common.{◌≡◌, ℕ, zero, suc, ◌+◌, ◌-◌, ◌<◌, ◌≤◌, Bool, true, false, List, [], ◌∷◌, ◌++◌, length, take, drop, get_or, map, arith, sym, ap, subst, ◌∙◌, refl}
-use Rattle.std.specs.List.{AllByRecursion, slice_range}
-use Rattle.std.proofs.lemmas.List.{length-take-le, length-drop, take_more, drop_more}
-use Rattle.std.proofs.lemmas.List.Elements.{All-take, All-drop}
+use Rattle.std.proofs.Common.{ℕ, zero, suc, ◌+◌, ◌<◌, ◌≤◌, List, [], ◌∷◌, length, get_or, arith}
+use Rattle.std.specs.List.{AllByRecursion}
 use Rattle.line_pieces.specs.declared.spans.LineSpan.{LineSpan}
-use Rattle.line_pieces.specs.Spans.{BeginsUnit, IsUnitSpan, Cover, AreSpans, AreShort, FirstBegins}
-use Rattle.incr_analysis.specs.Full.{lines_in}
+use Rattle.line_pieces.specs.Spans.{IsUnitSpan, Cover, AreSpans}
 
 nothing : LineSpan
 nothing = record { first = 0; count = 0 }

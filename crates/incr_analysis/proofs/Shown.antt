@@ -1,6 +1,6 @@
 -- What an analysed text keeps.
 use Rattle.std.proofs.Common.{◌≡◌, ℕ, List, [], ◌∷◌, map, refl, sym, ap, subst, ◌∙◌, arith}
-use Rattle.std.proofs.Common.{Bool, true, false, Option, Some, ◌<◌, length}
+use Rattle.std.proofs.Common.{Bool, true, false, Option, Some}
 use Rattle.std.specs.Borrow.{Bor}
 use Rattle.kumir_tree.specs.Part.{Head}
 use Rattle.kumir_tree.specs.Parts.{formal_of}
@@ -13,7 +13,7 @@ use Rattle.kumir_tree.specs.declared.unit.UnitRead.{UnitRead}
 use Rattle.kumir_tree.specs.declared.unit.PlacedUnit.{PlacedUnit}
 use Rattle.margins.specs.declared.margin.Mark.{Mark}
 use Rattle.type_check.specs.Placed.{reads_of, units_in}
-use Rattle.type_check.specs.Margin.{program_faults, IsMarginOf, fault_of}
+use Rattle.type_check.specs.Margin.{program_faults, IsMarginOf}
 use Rattle.type_check.specs.Refused.{IsRefusalOf}
 use Rattle.type_check.specs.declared.refusal.CleanRefusal.{CleanRefusal}
 use Rattle.type_check.specs.declared.refusal.CleanRefusal.TheVariants.{Faults, Memory}

@@ -1,15 +1,14 @@
 -- Units that are sound at their places.
-use Rattle.std.proofs.Common.{◌≡◌, ℕ, zero, suc, ◌+◌, ◌<◌, ◌≤◌, Bool, true, false, List, [], ◌∷◌, length, Option, Some, None, arith, sym, ap, subst, ◌∙◌, refl}
+use Rattle.std.proofs.Common.{ℕ, ◌+◌, ◌<◌, ◌≤◌, Bool, true, false, List, [], ◌∷◌, length, Option, Some, None, arith}
 use Rattle.std.specs.List.{AllByRecursion}
 use Rattle.kumir_tree.specs.declared.unit.Fault.{Fault}
 use Rattle.kumir_tree.specs.Tree.{Tree}
 use Rattle.kumir_tree.specs.Part.{Limits, Head}
 use Rattle.kumir_tree.specs.Program.{Stmt, Act, Stands, Declare, Assign, Invoke, Times, While, Count, Forever, Until, Choose, Select, Assert, Input, Output, Leave, Quit, Block, done, ◌next◌, Arms, no_arms, arm}
 use Rattle.kumir_tree.specs.Unit.{Known, Ending, Grown, Prelude, Faulty}
-use Rattle.kumir_tree.specs.Sound.{ActHolds, StmtHolds, BlockHolds, ArmsHold, ClaimHolds, FaultsHold, EndingHolds, SomeHead, HeadHolds, KnownHolds, HasDimensions, IsUnitRead, IsPreludeRead, IsPlaced, IsSound}
+use Rattle.kumir_tree.specs.Sound.{ActHolds, StmtHolds, BlockHolds, ArmsHold, ClaimHolds, FaultsHold, EndingHolds, SomeHead, HeadHolds, KnownHolds, HasDimensions, IsUnitRead, IsPlaced, IsSound}
 use Rattle.line_pieces.specs.declared.spans.LineSpan.{LineSpan}
 use Rattle.line_pieces.specs.Spans.{AreSpans}
-use Rattle.algo_parser.specs.Units.{IsSoundRead}
 use Rattle.incr_analysis.specs.Full.{Along}
 use Rattle.incr_analysis.specs.Answers.{IsSoundAt}
 

@@ -90,7 +90,7 @@ impl Analysed {
     }
 
     // The header of the first algorithm.
-    #[tactic(auto, using(type_check::proofs::First::main_found, type_check::proofs::First::no_main, crate::proofs::Shown::shown_units))]
+    #[tactic(auto, using(type_check::proofs::First::main_found, type_check::proofs::First::no_main))]
     fn first_header(&self) -> Option<&Header>
         ensures header { some_head_behind result ≡ first_head (units_in self.now.units) }
         ensures of_text { AreUnits self.now.text (units_in self.now.units) }

@@ -1,4 +1,4 @@
-use Rattle.std.proofs.Common.{◌≡◌, ℕ, ◌==◌, ◌∙◌, arith, sym, refl, Some, None}
+use Rattle.std.proofs.Common.{◌∙◌, Some, None}
 use Rattle.kumir_tree.specs.Units.{placed_of}
 use Rattle.incr_analysis.specs.Full.{IsReadAt}
 use Rattle.incr_analysis.specs.Answers.{IsSoundAt}
