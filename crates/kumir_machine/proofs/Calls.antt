@@ -5,6 +5,7 @@ use Rattle.performer_kit.specs.declared.commands.Command.{Command}
 use Rattle.performer_kit.specs.declared.commands.Command.TheVariants.{Robot, Pen}
 use Rattle.performer_kit.specs.declared.commands.Reply.{Reply}
 use Rattle.kumir_values.specs.declared.run_end.EndKind.{EndKind}
+use Rattle.kumir_values.specs.declared.run_end.EndKind.TheVariants as end_kind
 use Rattle.kumir_values.specs.Runs.{Act, Trace, end_of}
 use Rattle.kumir_values.specs.Runs as state
 use Rattle.kumir_values.specs.Meaning.{usual}
@@ -24,7 +25,7 @@ use Rattle.kumir_machine.specs.declared.going.Going.{Going}
 use Rattle.kumir_machine.specs.Course.{Stands, Free, Owes, Over, Failed, Course, acts_in, RunsTo, so_far, HasBegun, IsWhole, HasEnded, IsLawful, after, advanced, Stays, most_within, ComesNext, IsNext}
 use Rattle.kumir_machine.specs.Going.{phase_after, answer_after, Goes, AfterReply, Behind, AtWall, Wanted, Moves}
 use Rattle.kumir_machine.specs.Standing.{stands_of, course_of, HasCome, IsAsking, HasReply, Holds, IsMachine}
-use Rattle.kumir_machine.proofs.Courses.{steps_left, quiet, one_course, replied_begun, lawful}
+use Rattle.kumir_machine.proofs.Courses.{steps_left, quiet, one_course, other_end, replied_begun, lawful}
 use Rattle.kumir_machine.proofs.Onward.{From, from_come, from_reply, Came, holds_after, stands_after, no_await, within_most, most_few, comes_next, paused_whole}
 
 -- ---- the whole call
@@ -89,7 +90,8 @@ quiet_ended : (c : Course) (r : Advanced) (end : EndKind) → acts_in (r ∷ [])
 quiet_ended c r end e h = (
   h.0,
   h.1,
-  λ n le within. run_too c r n (so_far (advanced c r c.steps) h.0) (subst (λ l. RunsTo c n (record { acts = l; state = h.0 })) (sym (no_acts c r e)) (h.2 n le within)),
+  h.2,
+  λ n le within. run_too c r n (so_far (advanced c r c.steps) h.0) (subst (λ l. RunsTo c n (record { acts = l; state = h.0 })) (sym (no_acts c r e)) (h.3 n le within)),
 )
 
 none_above : (n most : ℕ) → n ≤ n + most
@@ -142,6 +144,7 @@ wall_ended c q reply s b end h a =
     let come = h.asking.come in (
       a.0,
       a.1,
+      other_end a.0 c end a.1 a.2.0,
       λ n le within.
           let x = a.2.1 (n - c.steps) [] in
           let v = come.comes.forth (n - c.steps) (reply ∷ []) x.0 _ x.1 in
@@ -165,7 +168,7 @@ ended_next : (c : Course) (most : ℕ) (end : EndKind) → c.steps ≤ c.budget 
 ended_next c most end within h other t r =
     let few = most_few c most in
     let le = within_most c c.steps most (none_above c.steps most) within in
-    let same = one_course c (most_within c most) t (so_far c h.0) r (h.2 (most_within c most) le few.1) in
+    let same = one_course c (most_within c most) t (so_far c h.0) r (h.3 (most_within c most) le few.1) in
     (ap (λ x. x.acts) same, ap (λ x. end_of x.state) same ∙ h.1, λ going. absurd (other (sym (ap (λ x. x.state) same) ∙ going)))
 
 -- a call that ends without a step
@@ -260,20 +263,27 @@ pub record Promised (c : Course) (most : ℕ) (result : Advanced) (new : Course)
   pub rise : c.steps ≤ new.steps
   pub few : new.steps ≤ c.steps + most
   pub paused : result ≡ answer.Paused → (new.steps ≡ c.steps + most) × IsWhole state.Going new
+  pub spent : result ≡ answer.Ended end_kind.Steps → new.steps ≡ new.budget
+
+-- an answer of that end is lawful at the budget alone
+ended_spent : (c new : Course) (result : Advanced) → new ≡ advanced c result new.steps → IsLawful new → result ≡ answer.Ended end_kind.Steps → new.steps ≡ new.budget
+ended_spent c new result same lawful e = (lawful.over end_kind.Steps (ap (λ x. x.stands) same ∙ ap (λ r. after r c.stands) e)).2 refl
 
 pub promised : (code : ValidCode) (budget most : ℕ) (old new : Going) (replies : List Reply) (answers later : List Advanced) (result : Advanced) → Called (course_of code budget old replies answers) most result new
     → new.stage.inputs ≡ old.stage.inputs → later ≡ answers ++ result ∷ [] → (c : Course) → course_of code budget old replies answers ≡ c → Promised c most result (course_of code budget new replies later)
 promised code budget most old new replies answers later result h e noted c is =
     let same = course_new code budget most old new replies answers later result h e noted in
     let holds = machine_new code budget most old new replies answers later result h e noted in
+    let law = lawful (course_of code budget new replies later) new.phase new.stage refl holds.0 holds.1 in
     subst (λ x. Promised x most result (course_of code budget new replies later)) is (record {
       advanced = same;
       stays = h.stays;
       next = h.next;
-      lawful = lawful (course_of code budget new replies later) new.phase new.stage refl holds.0 holds.1;
+      lawful = law;
       rise = h.rise;
       few = h.few;
       paused = λ p. let whole = h.paused p in (whole.0, subst (IsWhole state.Going) (sym same) whole.1);
+      spent = ended_spent (course_of code budget old replies answers) (course_of code budget new replies later) result same law;
     })
 
 -- ---- a reply is given

@@ -24,7 +24,7 @@ use Rattle.kumir_machine.specs.declared.answer.Advanced.{Advanced}
 use Rattle.kumir_machine.specs.declared.answer.Advanced.TheVariants as answer
 use Rattle.kumir_machine.specs.declared.going.Phase.{Phase}
 use Rattle.kumir_machine.specs.declared.going.Phase.TheVariants as phase
-use Rattle.kumir_machine.specs.Course.{Free, Owes, Over, Failed, Course, acts_in, RunsTo, so_far, HasBegun, IsWhole, HasEnded, IsLawful}
+use Rattle.kumir_machine.specs.Course.{Free, Owes, Over, Failed, Course, acts_in, RunsTo, so_far, HasBegun, IsWhole, IsSpent, HasEnded, IsLawful}
 use Rattle.kumir_machine.specs.Standing.{stands_of, HasCome, IsAsking, HasReply, Holds}
 
 -- ---- the acts of answers
@@ -100,9 +100,22 @@ runs_only c entry n j b e is p le h = record {
       (runs_by c.code.units entry c.steps n j c.inputs c.replies (acts_in c.answers) [] b e p le h);
 }
 
+-- only a run in which a step is needed ends for want of steps
+needs_one : (e : RunState) (end : EndKind) → end_of e ≡ Some end → end ≡ end_kind.Steps → e ≡ state.Going
+needs_one state.Going end h s = refl
+needs_one state.Awaiting end h s = absurd (let wrong : ⊥ = cc in wrong)
+needs_one state.Done end h s = absurd (let wrong : ⊥ = cc in wrong)
+needs_one state.Quit end h s = absurd (let wrong : ⊥ = cc in wrong)
+needs_one (state.Assert line) end h s = absurd (let wrong : ⊥ = cc in wrong)
+needs_one (state.Fault line fault) end h s = absurd (let wrong : ⊥ = cc in wrong)
+needs_one (state.Wall line) end h s = absurd (let wrong : ⊥ = cc in wrong)
+
+pub other_end : (e : RunState) (c : Course) (end : EndKind) → end_of e ≡ Some end → (e ≡ state.Going → ⊥) → IsSpent end c
+other_end e c end h other s = absurd (other (needs_one e end h s))
+
 pub ends_only : (c : Course) (entry : ℕ) (b : Moment) (e : RunState) (end : EndKind) → c.code.entry ≡ Some entry → Comes c.code.units (at (start entry) c.inputs) c.steps c.replies (acts_in c.answers) b
     → end_of e ≡ Some end → EndsIn c.code.units b e → HasEnded end c
-ends_only c entry b e end is p eo h = (e, eo, λ n le within. let x = h.1 (n - c.steps) [] in runs_only c entry n x.0 b e is p le x.1)
+ends_only c entry b e end is p eo h = (e, eo, other_end e c end eo h.0, λ n le within. let x = h.1 (n - c.steps) [] in runs_only c entry n x.0 b e is p le x.1)
 
 pub nothing_left : (m n : ℕ) → n ≡ m → n - m ≡ 0
 nothing_left m n e = omega (arith, e)
@@ -118,7 +131,7 @@ budget_spent steps budget n e a b = omega (arith, e, a, b)
 
 pub spent_only : (c : Course) (entry : ℕ) (b : Moment) → c.code.entry ≡ Some entry → Comes c.code.units (at (start entry) c.inputs) c.steps c.replies (acts_in c.answers) b
     → c.steps ≡ c.budget → NeedsStep c.code.units b → HasEnded end_kind.Steps c
-spent_only c entry b is p spent h = (state.Going, refl, λ n le within. goes_only c entry n b is p (budget_spent c.steps c.budget n spent le within) h)
+spent_only c entry b is p spent h = (state.Going, refl, λ s. spent, λ n le within. goes_only c entry n b is p (budget_spent c.steps c.budget n spent le within) h)
 
 -- where the Robot's reply is owed, the acts answered are all of those of the run, within any more steps
 pub asking_runs : (c : Course) (q : Question) (s : Stage) → IsAsking c q c.replies s → (n : ℕ) → c.steps ≤ n → RunsTo c n (so_far c state.Awaiting)

@@ -9,6 +9,7 @@ use Rattle.performer_kit.specs.declared.commands.Reply.{Reply}
 use Rattle.performer_kit.specs.declared.commands.Reply.TheVariants as reply
 use Rattle.kumir_values.specs.declared.value.Value.{Value}
 use Rattle.kumir_values.specs.declared.run_end.EndKind.{EndKind}
+use Rattle.kumir_values.specs.declared.run_end.EndKind.TheVariants as end_kind
 use Rattle.kumir_values.specs.Runs.{Act, Printed, Sent, RunState, Trace, end_of}
 use Rattle.kumir_values.specs.Runs as state
 use Rattle.stack_code.specs.Instructions.{is_test}
@@ -68,9 +69,13 @@ HasBegun c = (n : ℕ) (t : Trace) → c.steps ≤ n → RunsTo c n t → Begins
 abbrev pub IsWhole : RunState → Course → Type 0
 IsWhole state c = RunsTo c c.steps (so_far c state)
 
--- they are all of the acts of the run within the budget, and within fewer steps from those taken on; it ends in that way after them
+-- an end for want of steps comes where the steps taken are the budget
+abbrev pub IsSpent : EndKind → Course → Type 0
+IsSpent end c = end ≡ end_kind.Steps → c.steps ≡ c.budget
+
+-- they are all of the acts of the run within the budget, and within fewer steps from those taken on; it ends in that way after them, for want of steps only at the budget
 abbrev pub HasEnded : EndKind → Course → Type 0
-HasEnded end c = (state : RunState) × (end_of state ≡ Some end) × ((n : ℕ) → c.steps ≤ n → n ≤ c.budget → RunsTo c n (so_far c state))
+HasEnded end c = (state : RunState) × (end_of state ≡ Some end) × IsSpent end c × ((n : ℕ) → c.steps ≤ n → n ≤ c.budget → RunsTo c n (so_far c state))
 
 -- what holds at each moment
 pub record IsLawful (c : Course) : Type 0 where

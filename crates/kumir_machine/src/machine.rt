@@ -3,6 +3,7 @@ ghost use Rattle.std.specs.Prelude.{◌≡◌, ◌≤◌, ◌+◌, Some, IfOk};
 ghost use Rattle.std.specs.Arc.{arc_value};
 ghost use Rattle.kumir_machine.specs.Course.{Course, begun, owes, IsOwed, replied, advanced, Stays, IsNext, IsWhole, IsLawful};
 ghost use Rattle.kumir_values.specs.Runs as state;
+ghost use Rattle.kumir_values.specs.declared.run_end.EndKind.TheVariants as end;
 ghost use Rattle.kumir_machine.specs.declared.answer.Advanced.TheVariants as answer;
 
 use crate::answer::Advanced;
@@ -109,6 +110,7 @@ impl Machine {
         ensures rise { self.old.steps ≤ self.new.steps }
         ensures few { self.new.steps ≤ self.old.steps + most_steps }
         ensures paused { result ≡ answer.Paused → (self.new.steps ≡ self.old.steps + most_steps) × IsWhole state.Going self.new }
+        ensures spent { result ≡ answer.Ended end.Steps → self.new.steps ≡ self.new.budget }
     {
         let answer = move_on(
             alloc,

@@ -44,3 +44,6 @@ returns-clause-few c = (all c).few
 
 pub returns-clause-paused : goal.returns-clause-paused
 returns-clause-paused c = (all c).paused
+
+pub returns-clause-spent : goal.returns-clause-spent
+returns-clause-spent c = (all c).spent
