@@ -16,4 +16,5 @@ pub mod Alone
 pub mod Entering
 pub mod Staging
 pub mod Reachings
+pub mod Needing
 pub mod Replied

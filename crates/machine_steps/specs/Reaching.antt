@@ -2,8 +2,10 @@
 use Rattle.std.specs.Prelude.{◌≡◌, ℕ, ◌+◌, ◌<◌, ◌≤◌, List, [], ◌∷◌, Option, Some, None, All}
 use Rattle.performer_kit.specs.declared.commands.Command.TheVariants.{Pen}
 use Rattle.kumir_values.specs.declared.run_end.EndKind.{EndKind}
-use Rattle.kumir_values.specs.Runs.{Printed, Sent, RunState, end_of}
+use Rattle.kumir_values.specs.Runs.{Printed, Sent, RunState, Going, only, end_of}
+use Rattle.kumir_values.specs.Meaning.{usual}
 use Rattle.stack_code.specs.declared.unit.CodeUnit.{CodeUnit}
+use Rattle.stack_code.specs.CodeRuns.{exec}
 use Rattle.machine_steps.specs.declared.running.Running.{Running}
 use Rattle.machine_steps.specs.declared.stage.Stage.{Stage}
 use Rattle.machine_steps.specs.declared.stage.Stop.{Stop}
@@ -31,6 +33,10 @@ Reaches units a taken reached.Spent b = Comes units a taken [] [] b × NeedsStep
 -- so many steps lead to some moment
 abbrev pub ComesSome : List CodeUnit → Moment → ℕ → Type 0
 ComesSome units a taken = (m : Moment) × Comes units a taken [] [] m
+
+-- so many steps are needed: with fewer of them the run shows nothing and needs one more
+abbrev pub NeedsEach : List CodeUnit → Moment → ℕ → Type 0
+NeedsEach units a taken = (n : ℕ) → n < taken → (j : ℕ) × (exec usual units j a.state n a.inputs [] ≡ Some (only Going))
 
 -- behind a step: a call may stand next
 pub record IsBehindStep (units : List CodeUnit) (s : Stage) : Type 0 where

@@ -5,7 +5,7 @@ ghost use Rattle.stack_code.specs.Validity.{is_call};
 ghost use Rattle.machine_steps.specs.Progress.{at};
 ghost use Rattle.machine_steps.specs.Frames.{line_of, AllValid, IsEntered};
 ghost use Rattle.machine_steps.specs.Stages.{moment_of, IsStage, NeedsStep};
-ghost use Rattle.machine_steps.specs.Reaching.{stepped, Reaches, ComesSome, IsBehindStep, Enters, Passes, as_reached, IsStageAt, StepsIn};
+ghost use Rattle.machine_steps.specs.Reaching.{stepped, Reaches, ComesSome, NeedsEach, IsBehindStep, Enters, Passes, as_reached, IsStageAt, StepsIn};
 
 use crate::enter::enter;
 use crate::going::run_on;
@@ -181,6 +181,7 @@ pub fn run_steps(
     ensures reaches { IfOk result (λ reached. Reaches units.now (moment_of units.now stage.old) (steps.new - steps.old) reached (moment_of units.now stage.new)) }
     ensures stage { IfOk result (λ reached. IsStageAt units.now reached stage.new) }
     ensures steps { IfOk result (λ reached. StepsIn steps.old steps.new budget most reached) }
+    ensures needed { NeedsEach units.now (moment_of units.now stage.old) (steps.new - steps.old) }
     ensures refused { IfErr result (λ refused. ComesSome units.now (moment_of units.now stage.old) (steps.new - steps.old)) }
     ensures rise { steps.old ≤ steps.new }
     ensures within { steps.new ≤ budget }

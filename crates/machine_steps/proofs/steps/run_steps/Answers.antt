@@ -4,10 +4,11 @@ use Rattle.machine_steps.specs.Stages.{moment_of, IsStage}
 use Rattle.machine_steps.specs.Reaching.{Passes}
 use Rattle.machine_steps.proofs.Coming.{comes_none}
 use Rattle.machine_steps.proofs.Reachings.{behind_steps, stopped, reach_at, at_step, ends_behind, passes_behind, some_behind, taken_now, whatever}
+use Rattle.machine_steps.proofs.Needing.{needs_none, one_needed, so_needed}
 use Rattle.machine_steps.proofs.steps.run_steps.Goals as goal
 
 pub loop-stop-init : goal.loop-stop-init
-loop-stop-init c = record { stage = c.requires.stage; inputs = refl; steps = omega arith; few = omega arith; within = c.requires.within; comes = comes_none c.args.units.now _ }
+loop-stop-init c = record { stage = c.requires.stage; inputs = refl; steps = omega arith; few = omega arith; within = c.requires.within; comes = comes_none c.args.units.now _; needed = needs_none c.args.units.now _ }
 
 pub loop-stop-preserved : goal.loop-stop-preserved
 loop-stop-preserved c =
@@ -27,6 +28,7 @@ loop-stop-preserved c =
       few = omega (arith, few, not_most);
       within = omega (arith, within, not_all);
       comes = passes_behind c.args.units.now (moment_of c.args.units.now c.args.stage.now) (moment_of c.args.units.now c.run_on.new.stage) (moment_of c.args.units.now c.pass_step.new.stage) c.loop-stop.taken before passes;
+      needed = one_needed c.args.units.now (moment_of c.args.units.now c.args.stage.now) (moment_of c.args.units.now c.run_on.new.stage) c.loop-stop.taken before here.1 i.needed;
     }
 
 pub returns-in_err-stop-clause-refused : goal.returns-in_err-stop-clause-refused
@@ -62,3 +64,29 @@ returns-in-Some-2-clause-reaches c =
     let before = behind_steps c.args.units.now (moment_of c.args.units.now c.args.stage.now) (moment_of c.args.units.now c.loop-stop.stage) (moment_of c.args.units.now c.run_on.new.stage) c.loop-stop.taken c.loop-stop.taken _ refl c.loop-stop.invariant.comes here.0 in
     ends_behind c.args.units.now (moment_of c.args.units.now c.args.stage.now) (moment_of c.args.units.now c.run_on.new.stage) _ c.loop-stop.taken c.in-Some-2.end (one_more c.args.steps.now c.loop-stop.steps c.loop-stop.taken c.loop-stop.invariant.steps) before
     (subst (λ o. Passes c.args.units.now (moment_of c.args.units.now c.run_on.new.stage) o (moment_of c.args.units.now c.pass_step.new.stage)) c.in-Some-2.is c.in_ok-end.ensures.passes)
+
+pub returns-in_err-stop-clause-needed : goal.returns-in_err-stop-clause-needed
+returns-in_err-stop-clause-needed c = so_needed c.args.units.now (moment_of c.args.units.now c.args.stage.now) _ c.loop-stop.taken (taken_now c.args.steps.now c.loop-stop.steps c.loop-stop.taken c.loop-stop.invariant.steps) c.loop-stop.invariant.needed
+
+pub returns-in-Some-clause-needed : goal.returns-in-Some-clause-needed
+returns-in-Some-clause-needed c = so_needed c.args.units.now (moment_of c.args.units.now c.args.stage.now) _ c.loop-stop.taken (taken_now c.args.steps.now c.loop-stop.steps c.loop-stop.taken c.loop-stop.invariant.steps) c.loop-stop.invariant.needed
+
+pub returns-then-steps-budget-clause-needed : goal.returns-then-steps-budget-clause-needed
+returns-then-steps-budget-clause-needed c = so_needed c.args.units.now (moment_of c.args.units.now c.args.stage.now) _ c.loop-stop.taken (taken_now c.args.steps.now c.loop-stop.steps c.loop-stop.taken c.loop-stop.invariant.steps) c.loop-stop.invariant.needed
+
+pub returns-then-taken-most-clause-needed : goal.returns-then-taken-most-clause-needed
+returns-then-taken-most-clause-needed c = so_needed c.args.units.now (moment_of c.args.units.now c.args.stage.now) _ c.loop-stop.taken (taken_now c.args.steps.now c.loop-stop.steps c.loop-stop.taken c.loop-stop.invariant.steps) c.loop-stop.invariant.needed
+
+pub returns-in_err-end-clause-needed : goal.returns-in_err-end-clause-needed
+returns-in_err-end-clause-needed c =
+    let here = at_step c.args.units.now (moment_of c.args.units.now c.loop-stop.stage) (moment_of c.args.units.now c.run_on.new.stage) c.in_ok-stop.stop (sym c.reached_at.ensures ∙ c.in_default.is) c.in_ok-stop.ensures.stops in
+    let before = behind_steps c.args.units.now (moment_of c.args.units.now c.args.stage.now) (moment_of c.args.units.now c.loop-stop.stage) (moment_of c.args.units.now c.run_on.new.stage) c.loop-stop.taken c.loop-stop.taken _ refl c.loop-stop.invariant.comes here.0 in
+    so_needed c.args.units.now (moment_of c.args.units.now c.args.stage.now) _ (c.loop-stop.taken + 1) (one_more c.args.steps.now c.loop-stop.steps c.loop-stop.taken c.loop-stop.invariant.steps)
+    (one_needed c.args.units.now (moment_of c.args.units.now c.args.stage.now) (moment_of c.args.units.now c.run_on.new.stage) c.loop-stop.taken before here.1 c.loop-stop.invariant.needed)
+
+pub returns-in-Some-2-clause-needed : goal.returns-in-Some-2-clause-needed
+returns-in-Some-2-clause-needed c =
+    let here = at_step c.args.units.now (moment_of c.args.units.now c.loop-stop.stage) (moment_of c.args.units.now c.run_on.new.stage) c.in_ok-stop.stop (sym c.reached_at.ensures ∙ c.in_default.is) c.in_ok-stop.ensures.stops in
+    let before = behind_steps c.args.units.now (moment_of c.args.units.now c.args.stage.now) (moment_of c.args.units.now c.loop-stop.stage) (moment_of c.args.units.now c.run_on.new.stage) c.loop-stop.taken c.loop-stop.taken _ refl c.loop-stop.invariant.comes here.0 in
+    so_needed c.args.units.now (moment_of c.args.units.now c.args.stage.now) _ (c.loop-stop.taken + 1) (one_more c.args.steps.now c.loop-stop.steps c.loop-stop.taken c.loop-stop.invariant.steps)
+    (one_needed c.args.units.now (moment_of c.args.units.now c.args.stage.now) (moment_of c.args.units.now c.run_on.new.stage) c.loop-stop.taken before here.1 c.loop-stop.invariant.needed)

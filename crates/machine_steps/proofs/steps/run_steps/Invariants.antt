@@ -1,6 +1,7 @@
 use Rattle.std.proofs.Common.{◌≡◌, ◌≤◌, ◌+◌, ◌-◌, []}
 use Rattle.machine_steps.specs.Progress.{Comes}
 use Rattle.machine_steps.specs.Stages.{moment_of, IsStage}
+use Rattle.machine_steps.specs.Reaching.{NeedsEach}
 use Rattle.machine_steps.proofs.steps.run_steps.Given as goal
 
 abbrev pub invariant-loop-stop : goal.invariant-loop-stop
@@ -11,6 +12,7 @@ invariant-loop-stop l = record {
   few : l.taken ≤ l.most;
   within : l.steps ≤ l.budget;
   comes : Comes l.units (moment_of l.units l.fn.stage) l.taken [] [] (moment_of l.units l.stage);
+  needed : NeedsEach l.units (moment_of l.units l.fn.stage) l.taken;
 }
 
 abbrev pub decreases-loop-stop : goal.decreases-loop-stop
