@@ -22,11 +22,11 @@ use Rattle.kumir_machine.specs.declared.answer.Advanced.TheVariants as answer
 use Rattle.kumir_machine.specs.declared.going.Phase.{Phase}
 use Rattle.kumir_machine.specs.declared.going.Phase.TheVariants as phase
 use Rattle.kumir_machine.specs.declared.going.Going.{Going}
-use Rattle.kumir_machine.specs.Course.{Stands, Free, Owes, Over, Failed, Course, acts_in, RunsTo, so_far, HasBegun, IsWhole, HasEnded, IsLawful, after, advanced, Stays, most_within, ComesNext, IsNext}
+use Rattle.kumir_machine.specs.Course.{Stands, Free, Owes, Over, Failed, Course, acts_in, RunsTo, so_far, HasBegun, IsWhole, HasEnded, IsLawful, after, advanced, Stays, most_within, ComesNext, IsNext, NeedsAll}
 use Rattle.kumir_machine.specs.Going.{phase_after, answer_after, Goes, AfterReply, Behind, AtWall, Wanted, Moves}
 use Rattle.kumir_machine.specs.Standing.{stands_of, course_of, HasCome, IsAsking, HasReply, Holds, IsMachine}
 use Rattle.kumir_machine.proofs.Courses.{steps_left, quiet, one_course, other_end, replied_begun, lawful}
-use Rattle.kumir_machine.proofs.Onward.{From, from_come, from_reply, Came, holds_after, stands_after, no_await, within_most, most_few, comes_next, paused_whole}
+use Rattle.kumir_machine.proofs.Onward.{From, from_come, from_reply, Came, holds_after, stands_after, no_await, within_most, most_few, comes_next, needs_all, paused_whole}
 
 -- ---- the whole call
 
@@ -35,6 +35,7 @@ pub record Called (c : Course) (most : ℕ) (result : Advanced) (new : Going) : 
   pub stands : stands_of new.phase ≡ after result c.stands
   pub stays : Stays c result new.steps
   pub next : IsNext c most result
+  pub needed : NeedsAll c new.steps
   pub rise : c.steps ≤ new.steps
   pub few : new.steps ≤ c.steps + most
   pub within : new.steps ≤ c.budget
@@ -55,6 +56,7 @@ goes_so c a most result new free f g =
       stands = ap stands_of g.phase ∙ stands_after g.came ∙ ap (after (answer_after g.came)) (sym free) ∙ ap (λ r. after r c.stands) answered;
       stays = subst (λ r. Stays c r new.steps) answered (stays_by c Free (answer_after g.came) new.steps free (no_await g.came));
       next = λ is t r. subst (ComesNext c (most_within c most) t) answered (comes_next c a new.stage new.steps most g.came f came t r);
+      needed = needs_all c a new.steps f g.needed;
       rise = g.rise;
       few = g.few;
       within = g.within;
@@ -100,6 +102,10 @@ none_above n most = omega arith
 same_steps : (n : ℕ) → n ≤ n
 same_steps n = omega arith
 
+-- no step was taken
+none_taken : (c : Course) (m : ℕ) → m ≡ c.steps → NeedsAll c m
+none_taken c m e n le lt = absurd (let wrong : ⊥ = omega (arith, e, le, lt) in wrong)
+
 -- where it does not go on
 still : (c : Course) (most : ℕ) (r : Advanced) (old new : Going) → new ≡ old → old.steps ≡ c.steps → c.steps ≤ c.budget → (c.stands ≡ Free → ⊥) → (r ≡ answer.Paused → ⊥)
     → Holds (advanced c r c.steps) old.phase old.stage → stands_of old.phase ≡ after r c.stands → Stays c r c.steps → Called c most r new
@@ -108,6 +114,7 @@ still c most r old new same steps within busy other holds stands stays = subst (
   stands = stands;
   stays = subst (Stays c r) (sym steps) stays;
   next = λ free. absurd (busy free);
+  needed = none_taken c old.steps steps;
   rise = subst (λ n. c.steps ≤ n) (sym steps) (same_steps c.steps);
   few = subst (λ n. n ≤ c.steps + most) (sym steps) (none_above c.steps most);
   within = subst (λ n. n ≤ c.budget) (sym steps) within;
@@ -180,6 +187,7 @@ over_so c most end result new free within begun h other answered at steps =
       stands = ap stands_of at;
       stays = stays_by c Free (answer.Ended end) new.steps free (no_await_ended end);
       next = λ is t r. ended_next c most end within h other t r;
+      needed = none_taken c new.steps steps;
       rise = subst (λ n. c.steps ≤ n) (sym steps) (same_steps c.steps);
       few = subst (λ n. n ≤ c.steps + most) (sym steps) (none_above c.steps most);
       within = subst (λ n. n ≤ c.budget) (sym steps) within;
@@ -194,6 +202,7 @@ failed_so c most result new free within begun answered at steps =
       stands = ap stands_of at;
       stays = stays_by c Free answer.Memory new.steps free no_await_memory;
       next = λ is t r. tt;
+      needed = none_taken c new.steps steps;
       rise = subst (λ n. c.steps ≤ n) (sym steps) (same_steps c.steps);
       few = subst (λ n. n ≤ c.steps + most) (sym steps) (none_above c.steps most);
       within = subst (λ n. n ≤ c.budget) (sym steps) within;
@@ -259,6 +268,7 @@ pub record Promised (c : Course) (most : ℕ) (result : Advanced) (new : Course)
   pub advanced : new ≡ advanced c result new.steps
   pub stays : Stays c result new.steps
   pub next : IsNext c most result
+  pub exact : NeedsAll c new.steps
   pub lawful : IsLawful new
   pub rise : c.steps ≤ new.steps
   pub few : new.steps ≤ c.steps + most
@@ -279,6 +289,7 @@ promised code budget most old new replies answers later result h e noted c is =
       advanced = same;
       stays = h.stays;
       next = h.next;
+      exact = h.needed;
       lawful = law;
       rise = h.rise;
       few = h.few;

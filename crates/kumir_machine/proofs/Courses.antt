@@ -20,6 +20,7 @@ use Rattle.machine_steps.specs.declared.stage.Question.{Question}
 use Rattle.machine_steps.specs.Progress.{Moment, at, Comes}
 use Rattle.machine_steps.specs.Carried.{EndsIn}
 use Rattle.machine_steps.specs.Stages.{moment_of, NeedsStep, Asks}
+use Rattle.machine_steps.proofs.Needing.{needs_only}
 use Rattle.kumir_machine.specs.declared.answer.Advanced.{Advanced}
 use Rattle.kumir_machine.specs.declared.answer.Advanced.TheVariants as answer
 use Rattle.kumir_machine.specs.declared.going.Phase.{Phase}
@@ -67,9 +68,6 @@ runs_by units entry taken n j inputs given acts more b e p le h =
 -- a command of the Robot without its reply
 pub asked_only : (units : List CodeUnit) (q : Question) (b : Moment) (k : ℕ) → Asks units q b → exec usual units 1 b.state k b.inputs [] ≡ Some (record { acts = Sent (Robot q.command) ∷ []; state = state.Awaiting })
 asked_only units q b k h = ap (λ o. meet (acts_at usual units o b.state) (exec usual units 0) k b.inputs []) h
-
-pub needs_only : (units : List CodeUnit) (b : Moment) → NeedsStep units b → exec usual units 1 b.state 0 b.inputs [] ≡ Some (only state.Going)
-needs_only units b h = ap (λ o. meet (acts_at usual units o b.state) (exec usual units 0) 0 b.inputs []) h.1
 
 -- ---- the course
 

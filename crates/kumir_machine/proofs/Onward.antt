@@ -16,15 +16,16 @@ use Rattle.machine_steps.specs.declared.steps.Reached.{Reached}
 use Rattle.machine_steps.specs.declared.steps.Reached.TheVariants as reached
 use Rattle.machine_steps.specs.Progress.{Moment, at, Comes}
 use Rattle.machine_steps.specs.Stages.{moment_of, IsStage, NeedsStep}
-use Rattle.machine_steps.specs.Reaching.{Reaches, ComesSome, IsStageAt, StepsIn}
+use Rattle.machine_steps.specs.Reaching.{Reaches, ComesSome, NeedsEach, IsStageAt, StepsIn}
 use Rattle.machine_steps.specs.Replying.{Answers}
 use Rattle.machine_steps.proofs.Coming.{comes_both}
+use Rattle.machine_steps.proofs.Needing.{needs_only}
 use Rattle.kumir_machine.specs.declared.answer.Advanced.{Advanced}
 use Rattle.kumir_machine.specs.declared.answer.Advanced.TheVariants as answer
-use Rattle.kumir_machine.specs.Course.{Free, Course, acts_in, RunsTo, so_far, IsWhole, after, advanced, most_within, ComesNext}
+use Rattle.kumir_machine.specs.Course.{Free, Course, acts_in, RunsTo, so_far, IsWhole, after, advanced, most_within, ComesNext, NeedsAll}
 use Rattle.kumir_machine.specs.Going.{phase_after, answer_after}
 use Rattle.kumir_machine.specs.Standing.{stands_of, HasCome, HasReply, Holds}
-use Rattle.kumir_machine.proofs.Courses.{steps_left, nothing_left, acts_joined, begins_by, runs_by, asked_only, one_course, some_begun, run_from, ends_only, goes_only, needs_only, spent_only}
+use Rattle.kumir_machine.proofs.Courses.{steps_left, nothing_left, acts_joined, begins_by, runs_by, asked_only, one_course, some_begun, run_from, runs_only, ends_only, goes_only, spent_only}
 
 -- ---- where a call goes on
 
@@ -122,6 +123,16 @@ no_await (Ok (reached.Over e1)) e = let wrong : ⊥ = cc in wrong
 no_await (Ok reached.Paused) e = let wrong : ⊥ = cc in wrong
 no_await (Ok reached.Spent) e = let wrong : ⊥ = cc in wrong
 no_await (Err w) e = let wrong : ⊥ = cc in wrong
+
+-- ---- each step is needed
+
+left_below : (n m k : ℕ) → k ≤ n → n < m → n - k < m - k
+left_below n m k le lt = omega (arith, le, lt)
+
+pub needs_all : (c : Course) (a : Moment) (m : ℕ) → From c a → NeedsEach c.code.units a (m - c.steps) → NeedsAll c m
+needs_all c a m f h n le lt =
+    let x = h (n - c.steps) (left_below n m c.steps le lt) in
+    runs_only c f.entry n x.0 a state.Going f.is f.comes le x.1
 
 -- ---- what comes next
 

@@ -126,6 +126,10 @@ ComesNext c n t answer.Memory = Unit {0}
 abbrev pub IsNext : Course → ℕ → Advanced → Type 0
 IsNext c most a = c.stands ≡ Free → (t : Trace) → RunsTo c (most_within c most) t → ComesNext c (most_within c most) t a
 
+-- each step taken was needed: within fewer steps from those taken before on, the run has the acts answered so far alone, and needs one more
+abbrev pub NeedsAll : Course → ℕ → Type 0
+NeedsAll c steps = (n : ℕ) → c.steps ≤ n → n < steps → RunsTo c n (so_far c state.Going)
+
 -- ---- replies
 
 abbrev pub owes : Stands → Bool

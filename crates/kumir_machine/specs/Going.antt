@@ -12,7 +12,7 @@ use Rattle.machine_steps.specs.declared.steps.Reached.{Reached}
 use Rattle.machine_steps.specs.declared.steps.Reached.TheVariants as reached
 use Rattle.machine_steps.specs.Progress.{Moment}
 use Rattle.machine_steps.specs.Stages.{moment_of, IsStage, Asks}
-use Rattle.machine_steps.specs.Reaching.{Reaches, ComesSome, IsStageAt, StepsIn}
+use Rattle.machine_steps.specs.Reaching.{Reaches, ComesSome, NeedsEach, IsStageAt, StepsIn}
 use Rattle.machine_steps.specs.Replying.{Answers}
 use Rattle.kumir_machine.specs.declared.answer.Advanced.{Advanced}
 use Rattle.kumir_machine.specs.declared.answer.Advanced.TheVariants as answer
@@ -53,6 +53,7 @@ pub record Goes (units : List CodeUnit) (budget most : ℕ) (a : Moment) (steps 
   pub reaches : IfOk came (λ r. Reaches units a (new.steps - steps) r (moment_of units new.stage))
   pub stage : IfOk came (λ r. IsStageAt units r new.stage)
   pub taken : IfOk came (λ r. StepsIn steps new.steps budget most r)
+  pub needed : NeedsEach units a (new.steps - steps)
   pub refused : IfErr came (λ m. ComesSome units a (new.steps - steps))
   pub rise : steps ≤ new.steps
   pub few : new.steps ≤ steps + most

@@ -1,7 +1,7 @@
 //! The machine.
 ghost use Rattle.std.specs.Prelude.{◌≡◌, ◌≤◌, ◌+◌, Some, IfOk};
 ghost use Rattle.std.specs.Arc.{arc_value};
-ghost use Rattle.kumir_machine.specs.Course.{Course, begun, owes, IsOwed, replied, advanced, Stays, IsNext, IsWhole, IsLawful};
+ghost use Rattle.kumir_machine.specs.Course.{Course, begun, owes, IsOwed, replied, advanced, Stays, IsNext, NeedsAll, IsWhole, IsLawful};
 ghost use Rattle.kumir_values.specs.Runs as state;
 ghost use Rattle.kumir_values.specs.declared.run_end.EndKind.TheVariants as end;
 ghost use Rattle.kumir_machine.specs.declared.answer.Advanced.TheVariants as answer;
@@ -106,6 +106,7 @@ impl Machine {
         ensures advanced { self.new ≡ advanced self.old result self.new.steps }
         ensures stays { Stays self.old result self.new.steps }
         ensures next { IsNext self.old most_steps result }
+        ensures exact { NeedsAll self.old self.new.steps }
         ensures lawful { IsLawful self.new }
         ensures rise { self.old.steps ≤ self.new.steps }
         ensures few { self.new.steps ≤ self.old.steps + most_steps }

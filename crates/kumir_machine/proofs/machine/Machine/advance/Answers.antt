@@ -33,6 +33,9 @@ returns-clause-stays c = (all c).stays
 pub returns-clause-next : goal.returns-clause-next
 returns-clause-next c = (all c).next
 
+pub returns-clause-exact : goal.returns-clause-exact
+returns-clause-exact c = (all c).exact
+
 pub returns-clause-lawful : goal.returns-clause-lawful
 returns-clause-lawful c = (all c).lawful
 
