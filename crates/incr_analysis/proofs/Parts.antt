@@ -1,11 +1,8 @@
 -- The lines of a span.
-use Rattle.std.proofs.Common.{◌≡◌, ℕ, zero, suc, ◌+◌, ◌-◌, ◌<◌, ◌≤◌, Bool, true, false, List, [], ◌∷◌, ◌++◌, length, take, drop, get_or, map, arith, sym, ap, subst, ◌∙◌, refl}
-use Rattle.std.specs.List.{AllByRecursion, slice_range}
-use Rattle.std.proofs.lemmas.List.{length-take-le, length-drop, take_more, drop_more}
-use Rattle.std.proofs.lemmas.List.Elements.{All-take, All-drop}
+use Rattle.std.proofs.Common.{ℕ, zero, suc, ◌+◌, ◌<◌, ◌≤◌, List, [], ◌∷◌, length, get_or, arith}
+use Rattle.std.specs.List.{AllByRecursion}
 use Rattle.line_pieces.specs.declared.spans.LineSpan.{LineSpan}
-use Rattle.line_pieces.specs.Spans.{BeginsUnit, IsUnitSpan, Cover, AreSpans, AreShort, FirstBegins}
-use Rattle.incr_analysis.specs.Full.{lines_in}
+use Rattle.line_pieces.specs.Spans.{IsUnitSpan, Cover, AreSpans}
 
 nothing : LineSpan
 nothing = record { first = 0; count = 0 }
@@ -19,10 +16,20 @@ cover_within at (s ∷ spans) end zero d c lt = omega (arith, c.0, cover_up (at 
     cover_up from (r ∷ more) end c = omega (arith, cover_up (from + r.count) more end c.1)
 cover_within at (s ∷ spans) end (suc i) d c lt = cover_within (at + s.count) spans end i d c.1 (omega arith)
 
+cover_from : (at : ℕ) (spans : List LineSpan) (end i : ℕ) (d : LineSpan) → Cover at spans end → i < length spans → at ≤ (get_or spans i d).first
+cover_from at [] end i d c lt = absurd (omega arith)
+cover_from at (s ∷ spans) end zero d c lt = omega (arith, c.0)
+cover_from at (s ∷ spans) end (suc i) d c lt = omega (arith, cover_from (at + s.count) spans end i d c.1 (omega arith))
+
+-- each span begins at a line
+pub span_from_one : (lines : List (List ℕ)) (spans : List LineSpan) (i : ℕ) (d : LineSpan) → AreSpans lines spans → i < length spans → 1 ≤ (get_or spans i d).first
+span_from_one lines [] i d h lt = absurd h
+span_from_one lines (p ∷ spans) i d h lt = cover_from 1 (p ∷ spans) (length lines + 1) i d h.2 lt
+
 -- each span stands within the lines
-pub span_within : (lines : List (List ℕ)) (spans : List LineSpan) (i : ℕ) (d : LineSpan) → AreSpans lines spans → i < length spans → (get_or spans i d).first + (get_or spans i d).count ≤ length lines
+pub span_within : (lines : List (List ℕ)) (spans : List LineSpan) (i : ℕ) (d : LineSpan) → AreSpans lines spans → i < length spans → (get_or spans i d).first + (get_or spans i d).count ≤ length lines + 1
 span_within lines [] i d h lt = absurd h
-span_within lines (p ∷ spans) i d h lt = cover_within 0 (p ∷ spans) (length lines) i d h.2 lt
+span_within lines (p ∷ spans) i d h lt = cover_within 1 (p ∷ spans) (length lines + 1) i d h.2 lt
 
 member : {X : Type 0} (P : X → Type 0) (xs : List X) (i : ℕ) (d : X) → AllByRecursion P xs → i < length xs → P (get_or xs i d)
 member P [] i d h lt = absurd (omega arith)

@@ -1,5 +1,5 @@
 -- Numbers that a stop told, one call after another.
-use Rattle.std.proofs.Common.{◌≡◌, ℕ, ◌+◌, ◌-◌, ◌<◌, List, [], ◌∷◌, ◌++◌, length, get_or, Option, Some, None, arith, sym, ap, subst, ◌∙◌, append_assoc, length-append, refl}
+use Rattle.std.proofs.Common.{◌≡◌, ℕ, ◌+◌, ◌-◌, List, ◌++◌, length, get_or, Option, Some, None, arith, sym, ap, subst, ◌∙◌, append_assoc, length-append}
 use Rattle.std.specs.List.{Contains}
 use Rattle.std.proofs.Math.Seq.{get_or-append_right}
 use Rattle.incr_analysis.specs.Stops.{IsAmong, SeesMore, IsNewer}

@@ -1,6 +1,6 @@
 -- What an analysed text keeps.
 use Rattle.std.proofs.Common.{◌≡◌, ℕ, List, [], ◌∷◌, map, refl, sym, ap, subst, ◌∙◌, arith}
-use Rattle.std.proofs.Common.{Bool, true, false, Option, Some, ◌<◌, length}
+use Rattle.std.proofs.Common.{Bool, true, false, Option, Some}
 use Rattle.std.specs.Borrow.{Bor}
 use Rattle.kumir_tree.specs.Part.{Head}
 use Rattle.kumir_tree.specs.Parts.{formal_of}
@@ -13,13 +13,14 @@ use Rattle.kumir_tree.specs.declared.unit.UnitRead.{UnitRead}
 use Rattle.kumir_tree.specs.declared.unit.PlacedUnit.{PlacedUnit}
 use Rattle.margins.specs.declared.margin.Mark.{Mark}
 use Rattle.type_check.specs.Placed.{reads_of, units_in}
-use Rattle.type_check.specs.Margin.{program_faults, IsMarginOf, fault_of}
+use Rattle.type_check.specs.Margin.{program_faults, IsMarginOf}
 use Rattle.type_check.specs.Refused.{IsRefusalOf}
 use Rattle.type_check.specs.declared.refusal.CleanRefusal.{CleanRefusal}
 use Rattle.type_check.specs.declared.refusal.CleanRefusal.TheVariants.{Faults, Memory}
 use Rattle.type_check.proofs.First.{units_seen}
 use Rattle.type_check.proofs.OneMargin.{has_one_margin}
-use Rattle.incr_analysis.specs.Full.{IsAnalysis, Full, is_empty, takes_nothing}
+use Rattle.incr_analysis.specs.Full.{AreUnits, IsAnalysis, Full, is_empty, takes_nothing}
+use Rattle.incr_analysis.specs.Seen.{AnalysedText}
 use Rattle.incr_analysis.specs.Answers.{IsRefusedWith}
 
 pub shown_full : (lines : List (List ℕ)) (units : List (ℕ × Known)) (margin : List Mark) → IsAnalysis lines units margin → Full lines margin
@@ -27,6 +28,10 @@ shown_full lines units margin h = (units, h)
 
 pub same_units : (seen : List (ℕ × UnitRead)) (units : List PlacedUnit) → seen ≡ reads_of units → units_of units ≡ units_in seen
 same_units seen units e = sym (units_seen units) ∙ ap units_in (sym e)
+
+-- the units that are seen are those of the text that is seen
+pub shown_units : (a : AnalysedText) (version : ℕ) (lines : List (List ℕ)) (units : List PlacedUnit) (marks : List Mark) → record { version = version; text = lines; units = reads_of units; margin = marks } ≡ a → IsAnalysis lines (units_of units) marks → AreUnits a.text (units_in a.units)
+shown_units a version lines units marks is h = subst (λ (b : AnalysedText). AreUnits b.text (units_in b.units)) is (subst (AreUnits lines) (sym (units_seen units)) h.are_units)
 
 -- without a fault there is no mark
 pub no_marks : (marks : List Mark) → IsMarginOf [] marks → marks ≡ []

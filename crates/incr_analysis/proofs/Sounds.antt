@@ -1,15 +1,14 @@
 -- Units that are sound at their places.
-use Rattle.std.proofs.Common.{◌≡◌, ℕ, zero, suc, ◌+◌, ◌<◌, ◌≤◌, Bool, true, false, List, [], ◌∷◌, length, Option, Some, None, arith, sym, ap, subst, ◌∙◌, refl}
+use Rattle.std.proofs.Common.{ℕ, ◌+◌, ◌<◌, ◌≤◌, Bool, true, false, List, [], ◌∷◌, length, Option, Some, None, arith}
 use Rattle.std.specs.List.{AllByRecursion}
 use Rattle.kumir_tree.specs.declared.unit.Fault.{Fault}
 use Rattle.kumir_tree.specs.Tree.{Tree}
 use Rattle.kumir_tree.specs.Part.{Limits, Head}
 use Rattle.kumir_tree.specs.Program.{Stmt, Act, Stands, Declare, Assign, Invoke, Times, While, Count, Forever, Until, Choose, Select, Assert, Input, Output, Leave, Quit, Block, done, ◌next◌, Arms, no_arms, arm}
 use Rattle.kumir_tree.specs.Unit.{Known, Ending, Grown, Prelude, Faulty}
-use Rattle.kumir_tree.specs.Sound.{ActHolds, StmtHolds, BlockHolds, ArmsHold, ClaimHolds, FaultsHold, EndingHolds, SomeHead, HeadHolds, KnownHolds, HasDimensions, IsUnitRead, IsPreludeRead, IsPlaced, IsSound}
+use Rattle.kumir_tree.specs.Sound.{ActHolds, StmtHolds, BlockHolds, ArmsHold, ClaimHolds, FaultsHold, EndingHolds, SomeHead, HeadHolds, KnownHolds, HasDimensions, IsUnitRead, IsPlaced, IsSound}
 use Rattle.line_pieces.specs.declared.spans.LineSpan.{LineSpan}
 use Rattle.line_pieces.specs.Spans.{AreSpans}
-use Rattle.algo_parser.specs.Units.{IsSoundRead}
 use Rattle.incr_analysis.specs.Full.{Along}
 use Rattle.incr_analysis.specs.Answers.{IsSoundAt}
 
@@ -68,7 +67,7 @@ module _ (L M : ℕ → Type 0) (B : Limits → Type 0) (up : (n : ℕ) → L n 
 
 placed : (lines : ℕ) (prelude : Bool) (span : LineSpan) (u : ℕ × Known) → lines < 4294967295 → IsSoundAt lines prelude span u → KnownHolds (λ line. line < span.count) HasDimensions u.1 → IsPlaced u
 placed lines prelude span u few at holds =
-    (omega (arith, at.place), known_up (λ line. line < span.count) (λ line. u.0 + line ≤ 4294967295) HasDimensions (λ n lt. omega (arith, lt, at.place, at.within, few)) u.1 holds)
+    (omega (arith, at.place, at.from_one), known_up (λ line. line < span.count) (λ line. u.0 + line ≤ 4294967295) HasDimensions (λ n lt. omega (arith, lt, at.place, at.within, few)) u.1 holds)
 
 units_sound : (lines : ℕ) (spans : List LineSpan) (units : List (ℕ × Known)) → lines < 4294967295 → Along (IsSoundAt lines) false spans units → AllByRecursion (λ u. IsUnitRead u.1 × IsPlaced u) units
 units_sound lines [] [] few a = tt

@@ -17,8 +17,9 @@ use Rattle.incr_analysis.specs.declared.analyser.Reading.TheVariants as reading
 
 -- what is read of a span is sound at its place in a text of so many lines
 pub record IsSoundAt (lines : ℕ) (prelude : Bool) (span : LineSpan) (u : ℕ × Known) : Type 0 where
-  pub place : u.0 ≡ span.first + 1
-  pub within : span.first + span.count ≤ lines
+  pub place : u.0 ≡ span.first
+  pub from_one : 1 ≤ span.first
+  pub within : span.first + span.count ≤ lines + 1
   pub sound : IsSoundRead span.count prelude u.1
 
 abbrev pub IfWhole : Reading → (List PlacedUnit → Type 0) → Type 0

@@ -1,5 +1,5 @@
 -- The full analysis of a text: from all its lines at once, its units, and of these its margin. docs/LANGUAGE.md, "The margin".
-use Rattle.std.specs.Prelude.{◌≡◌, ℕ, ◌+◌, Bool, true, false, List, [], ◌∷◌, Option, Some, None, slice_range}
+use Rattle.std.specs.Prelude.{◌≡◌, ℕ, ◌+◌, ◌-◌, Bool, true, false, List, [], ◌∷◌, Option, Some, None, slice_range}
 use Rattle.kumir_tree.specs.Part.{Head, Formal}
 use Rattle.kumir_tree.specs.Unit.{Known}
 use Rattle.margins.specs.declared.margin.Mark.{Mark}
@@ -17,11 +17,11 @@ Along P prelude (span ∷ spans) (u ∷ units) = P prelude span u × Along P fal
 
 -- the lines of a span
 abbrev pub lines_in : List (List ℕ) → LineSpan → List (List ℕ)
-lines_in lines span = slice_range lines span.first (span.first + span.count)
+lines_in lines span = slice_range lines (span.first - 1) (span.first - 1 + span.count)
 
--- what is read from the lines of a span; it stands at the first of them, counted from 1
+-- what is read from the lines of a span; it stands at the first of them
 pub record IsReadAt (lines : List (List ℕ)) (prelude : Bool) (span : LineSpan) (u : ℕ × Known) : Type 0 where
-  pub place : u.0 ≡ span.first + 1
+  pub place : u.0 ≡ span.first
   pub read : UnitReads (lines_in lines span) prelude u.1
 
 -- the prelude and the units of a text

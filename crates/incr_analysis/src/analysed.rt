@@ -6,7 +6,7 @@ ghost use Rattle.kumir_tree.specs.Units.{placed_of};
 ghost use Rattle.type_check.specs.Margin.{first_head};
 ghost use Rattle.type_rules.specs.Headers.{some_head_behind};
 ghost use Rattle.type_check.specs.Placed.{units_in};
-ghost use Rattle.incr_analysis.specs.Full.{Full, has_main};
+ghost use Rattle.incr_analysis.specs.Full.{AreUnits, Full, has_main};
 ghost use Rattle.incr_analysis.specs.Answers.{IsRefusedWith};
 
 use kumir_tree::{Header, PlacedUnit, Units};
@@ -82,6 +82,7 @@ impl Analysed {
     #[tactic(auto, using(crate::proofs::Shown::same_units))]
     pub fn clean(&self, alloc: Global) -> Result<Clean, CleanRefusal>
         ensures same { IfOk result (λ clean. units_in clean ≡ units_in self.now.units) }
+        ensures of_text { IfOk result (λ clean. AreUnits self.now.text (units_in clean)) }
         ensures without_fault { OnOk result (self.now.margin ≡ []) }
         ensures refused { IfErr result (λ refusal. IsRefusedWith self.now.margin refusal) }
     {
@@ -91,7 +92,8 @@ impl Analysed {
     // The header of the first algorithm.
     #[tactic(auto, using(type_check::proofs::First::main_found, type_check::proofs::First::no_main))]
     fn first_header(&self) -> Option<&Header>
-        ensures { some_head_behind result ≡ first_head (units_in self.now.units) }
+        ensures header { some_head_behind result ≡ first_head (units_in self.now.units) }
+        ensures of_text { AreUnits self.now.text (units_in self.now.units) }
     {
         match self.units.get(1) {
             Some(unit) => header_of(unit),
@@ -102,7 +104,8 @@ impl Analysed {
     /// Whether there is a first algorithm and it has no parameters. The margin has no mark.
     pub fn has_main(&self) -> bool
         requires { self.now.margin ≡ [] }
-        ensures { result ≡ has_main (units_in self.now.units) }
+        ensures main { result ≡ has_main (units_in self.now.units) }
+        ensures of_text { AreUnits self.now.text (units_in self.now.units) }
     {
         match self.first_header() {
             Some(header) => header.params.is_empty(),

@@ -66,19 +66,20 @@ fn read_span<R: Ledger>(
 ) -> Result<PlacedUnit, Memory>
     requires few { length lines.now < 4294967295 }
     requires short { AreShort lines.now }
-    requires within { span.first + span.count ≤ length lines.now }
+    requires from_one { 1 ≤ span.first }
+    requires within { span.first + span.count ≤ length lines.now + 1 }
     requires begins { prelude ≡ false → IsUnitSpan lines.now span }
     ensures read { IfOk result (λ u. IsReadAt lines.now prelude span (placed_of u)) }
     ensures sound { IfOk result (λ u. IsSoundAt (length lines.now) prelude span (placed_of u)) }
 {
-    let first = span.first as usize;
+    let first = span.first as usize - 1;
     let part = &lines[first..first + span.count as usize];
     let read = read_unit(alloc, part, prelude, reads)?;
     let Ok(read) = Arc::new(alloc, read) else {
         return Err(Memory);
     };
     Ok(PlacedUnit {
-        first: span.first + 1,
+        first: span.first,
         read,
     })
 }

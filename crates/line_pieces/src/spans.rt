@@ -1,6 +1,6 @@
 //! The units of a text as ranges of its lines (docs/LANGUAGE.md, "Units").
 
-ghost use Rattle.std.specs.Prelude.{◌≡◌, ◌<◌, ◌≤◌, ◌↔◌, length, IsTrue, IfOk, slice_index_or, []};
+ghost use Rattle.std.specs.Prelude.{◌≡◌, ◌+◌, ◌<◌, ◌≤◌, ◌↔◌, length, IsTrue, IfOk, slice_index_or, []};
 ghost use Rattle.std.specs.Str.{encode_utf8_all};
 ghost use Rattle.line_pieces.specs.Spans.{BeginsUnit, IsAlgorithmWord, NoneBegins, AreSpans, AreShort};
 
@@ -10,7 +10,7 @@ use kumir_tree::{Key, Line, Spanned, Token};
 use sqlite_items::Items;
 use std::alloc::Global;
 
-/// The `count` lines from line `first` on, counted from 0.
+/// The `count` lines from line `first` on, counted from 1.
 #[derive(Clone, Copy, Debug, PartialEq, Eq)]
 pub struct LineSpan {
     pub first: u32,
@@ -39,13 +39,13 @@ fn begins_unit(alloc: Global, line: &Line) -> Result<bool, Memory>
     Ok(is_algorithm_word(found.tokens.as_slice()))
 }
 
-// The first line from `from` on that begins a unit, or the number of lines.
+// The place of the first line from `from` on that begins a unit, or the number of lines.
 fn span_end(alloc: Global, lines: &[Line], from: usize) -> Result<usize, Memory>
     requires inside { from ≤ length lines.now }
     requires short { AreShort lines.now }
     ensures behind { IfOk result (λ end. from ≤ end) }
     ensures within { IfOk result (λ end. end ≤ length lines.now) }
-    ensures none { IfOk result (λ end. NoneBegins lines.now from end) }
+    ensures none { IfOk result (λ end. NoneBegins lines.now (from + 1) (end + 1)) }
     ensures begins { IfOk result (λ end. end < length lines.now → BeginsUnit (slice_index_or lines.now end [])) }
 {
     for at in from..lines.len() {
@@ -65,13 +65,13 @@ pub fn split_units(alloc: Global, lines: &[Line]) -> Result<UnitSpans, Memory>
     let mut spans = Items::new(alloc);
     let mut at = span_end(alloc, lines, 0)?;
     spans.push(LineSpan {
-        first: 0,
+        first: 1,
         count: at as u32,
     })?;
     while at < lines.len() {
         let end = span_end(alloc, lines, at + 1)?;
         spans.push(LineSpan {
-            first: at as u32,
+            first: at as u32 + 1,
             count: (end - at) as u32,
         })?;
         at = end;

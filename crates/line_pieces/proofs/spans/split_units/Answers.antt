@@ -1,4 +1,4 @@
-use Rattle.std.proofs.Common.{arith, append-nil, [], ◌≡◌, length}
+use Rattle.std.proofs.Common.{arith, ◌+◌, append-nil, [], ◌≡◌, length}
 use Rattle.line_pieces.proofs.Firsts.{span_more}
 use Rattle.line_pieces.proofs.spans.split_units.Goals as goal
 
@@ -11,4 +11,4 @@ loop-at-preserved c = record {
 }
 
 pub returns : goal.returns
-returns c = rw append-nil at (c.loop-at.invariant.so_far [] tt (let e : c.loop-at.at ≡ length c.args.lines.now = omega (arith, c.loop-at.invariant.within, c.loop-at-test.false) in e))
+returns c = rw append-nil at (c.loop-at.invariant.so_far [] tt (let e : c.loop-at.at + 1 ≡ length c.args.lines.now + 1 = omega (arith, c.loop-at.invariant.within, c.loop-at-test.false) in e))

@@ -1,4 +1,4 @@
-use Rattle.std.proofs.Common.{◌≡◌, ◌<◌, ℕ, List, length, sym, subst, ◌∙◌, ap}
+use Rattle.std.proofs.Common.{◌≡◌, ◌<◌, length, sym, subst, ◌∙◌}
 use Rattle.kumir_tree.specs.Units.{units_of}
 use Rattle.line_pieces.specs.Spans.{AreSpans}
 use Rattle.incr_analysis.specs.Full.{Along}

@@ -1,0 +1,5 @@
+//! Tests of analyses and of what they keep.
+#![tactic(auto)]
+
+#[cfg(test)]
+mod tests;
