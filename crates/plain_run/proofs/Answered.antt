@@ -19,7 +19,7 @@ use Rattle.script_lines.specs.declared.request.Request.{Request}
 use Rattle.transcript.specs.declared.entry.Entry.{Entry}
 use Rattle.transcript.specs.declared.entry.Entry.TheVariants as entry
 use Rattle.incr_analysis.specs.Full.{Full}
-use Rattle.plain_run.specs.Answer.{with_ask, accepted, is_edit, newest, NoneOpen, IsSettled, SaysOutcome, Answer}
+use Rattle.script_lines.specs.Answer.{with_ask, accepted, is_edit, newest, NoneOpen, IsSettled, SaysOutcome, Answer}
 use Rattle.plain_run.specs.Plain.{IsMarginOf, StandsBehind, AreAnswers, IsPlain}
 use Rattle.plain_run.specs.Carried.{IsNewestMargin, Alone, SaysEdit, Answers, Carries}
 

@@ -3,6 +3,9 @@ use Rattle.std.proofs.Common.{map, ◌≡◌, ℕ, ◌+◌, ◌<◌, ◌≤◌, 
 use Rattle.std.proofs.Math.Seq.{take-append-add}
 use Rattle.std.proofs.lemmas.List.{take-append-le, take-append-drop, take_more, length-take-le, get_or-map, length-map}
 use Rattle.km_ports.specs.Ports.{PutsInto}
+use Rattle.km_ports.specs.declared.port.PutFault.{PutFault}
+use Rattle.km_ports.specs.declared.port.PutFault.TheVariants as put_fault
+use Rattle.std.specs.Prelude.{Result, Ok, Err, OnErr, IfErr}
 use Rattle.km_ports.proofs.PortLaws.{PutsInto-nothing, PutsInto-then}
 use Rattle.kumir_tree.specs.declared.token.Spanned.{Spanned}
 use Rattle.kumir_lexer.specs.declared.cutting.LexFault.{LexFault}
@@ -13,8 +16,9 @@ use Rattle.km_ports.specs.Whole.{PutsFront}
 use Rattle.kumir_tree.specs.Lines.{lines_of}
 use Rattle.km_ports.specs.declared.status.Status.TheVariants as status
 use Rattle.plain_run.specs.Printed.{PrintsLines, AnswersTokens}
-use Rattle.plain_run.specs.Runs.{Ports, Wrote, WroteFront}
-use Rattle.plain_run.specs.Puts.{PutsLines, PutsFrontOf}
+use Rattle.plain_run.specs.Runs.{Ports, Wrote}
+use Rattle.plain_run.proofs.Runs.{AnsweredPart}
+use Rattle.plain_run.specs.Puts.{IsPart, PutsLines, PutsFrontOf}
 
 prints_append : (n : ℕ) (xs ys : List (List ℕ)) (a b : List ℕ) → PrintsLines n xs a → PrintsLines (n + length xs) ys b → PrintsLines n (xs ++ ys) (a ++ b)
 unfolding PrintsLines
@@ -47,26 +51,40 @@ puts_none n written = ([], refl, PutsInto-nothing written)
 pub puts_then : (n : ℕ) (xs ys : List (List ℕ)) (before between now : Option (List ℕ)) → PutsLines n xs before between → PutsLines (n + length xs) ys between now → PutsLines n (xs ++ ys) before now
 puts_then n xs ys before between now p q = (p.0 ++ q.0, prints_append n xs ys p.0 q.0 p.1 q.1, PutsInto-then before between now p.0 q.0 p.2 q.2)
 
-pub front_then : (n : ℕ) (xs ys zs : List (List ℕ)) (before between now : Option (List ℕ)) → PutsLines n xs before between → PutsFrontOf (n + length xs) ys between now → PutsFrontOf n (xs ++ (ys ++ zs)) before now
-front_then n xs ys zs before between now p q =
+-- ---- a part of a text
+
+part_fits : (fault : PutFault) (count : ℕ) (text : List ℕ) → IsPart fault count text → count ≤ length text
+part_fits put_fault.Failed count text p = omega (arith, p)
+part_fits put_fault.Memory count text p = p
+
+pub part_less : (fault : PutFault) (count : ℕ) (text : List ℕ) → count < length text → IsPart fault count text
+part_less put_fault.Failed count text p = p
+part_less put_fault.Memory count text p = omega (arith, p)
+
+part_behind : (fault : PutFault) (count : ℕ) (front text rest : List ℕ) → IsPart fault count text → IsPart fault (length front + count) (front ++ (text ++ rest))
+part_behind put_fault.Failed count front text rest p = omega (arith, p, length-append front (text ++ rest), length-append text rest)
+part_behind put_fault.Memory count front text rest p = omega (arith, p, length-append front (text ++ rest), length-append text rest)
+
+pub front_then : (fault : PutFault) (n : ℕ) (xs ys zs : List (List ℕ)) (before between now : Option (List ℕ)) → PutsLines n xs before between → PutsFrontOf fault (n + length xs) ys between now → PutsFrontOf fault n (xs ++ (ys ++ zs)) before now
+front_then fault n xs ys zs before between now p q =
     let rest = prints_some (n + length xs + length ys) zs in
     let behind = prints_append (n + length xs) ys zs q.0 rest.0 q.3 rest.1 in
-    let front : take (length p.0 + q.1) (p.0 ++ (q.0 ++ rest.0)) ≡ p.0 ++ take q.1 q.0 = take-append-add p.0 (q.0 ++ rest.0) q.1 ∙ ap (λ t. p.0 ++ t) (take-append-le q.1 q.0 rest.0 q.2) in
-    let fits : length p.0 + q.1 ≤ length (p.0 ++ (q.0 ++ rest.0)) = omega (arith, q.2, length-append p.0 (q.0 ++ rest.0), length-append q.0 rest.0) in
-    (p.0 ++ (q.0 ++ rest.0), length p.0 + q.1, fits, prints_append n xs (ys ++ zs) p.0 (q.0 ++ rest.0) p.1 behind, subst (λ t. PutsInto before now t) (sym front) (PutsInto-then before between now p.0 (take q.1 q.0) p.2 q.4))
+    let front : take (length p.0 + q.1) (p.0 ++ (q.0 ++ rest.0)) ≡ p.0 ++ take q.1 q.0 = take-append-add p.0 (q.0 ++ rest.0) q.1 ∙ ap (λ t. p.0 ++ t) (take-append-le q.1 q.0 rest.0 (part_fits fault q.1 q.0 q.2)) in
+    (p.0 ++ (q.0 ++ rest.0), length p.0 + q.1, part_behind fault q.1 p.0 q.0 rest.0 q.2, prints_append n xs (ys ++ zs) p.0 (q.0 ++ rest.0) p.1 behind, subst (λ t. PutsInto before now t) (sym front) (PutsInto-then before between now p.0 (take q.1 q.0) p.2 q.4))
 
--- nothing is a front
-pub front_none : (n : ℕ) (lines : List (List ℕ)) (written : Option (List ℕ)) → PutsFrontOf n lines written written
+-- nothing is a front, where memory is wanted
+pub front_none : (n : ℕ) (lines : List (List ℕ)) (written : Option (List ℕ)) → PutsFrontOf put_fault.Memory n lines written written
 front_none n lines written = let all = prints_some n lines in (all.0, 0, omega arith, all.1, PutsInto-nothing written)
 
 -- the print of one line, whole or a front of it
 pub line_whole : (n : ℕ) (line : List ℕ) (tokens : List Spanned) (fault : Option LexFault) (bytes : List ℕ) (before now : Option (List ℕ)) → Cut line tokens fault → bytes ≡ printed_tokens n tokens fault → PutsInto before now bytes → PutsLines n (line ∷ []) before now
 line_whole n line tokens fault bytes before now cut e puts = (printed_tokens n tokens fault, prints_one n line tokens fault cut, subst (λ b. PutsInto before now b) e puts)
 
-pub line_front : (n : ℕ) (line : List ℕ) (tokens : List Spanned) (fault : Option LexFault) (bytes : List ℕ) (before now : Option (List ℕ)) → Cut line tokens fault → bytes ≡ printed_tokens n tokens fault → PutsFront before now bytes → PutsFrontOf n (line ∷ []) before now
-line_front n line tokens fault bytes before now cut e puts =
+pub line_front : {T : Type 0} (r : Result T PutFault) (n : ℕ) (line : List ℕ) (tokens : List Spanned) (fault : Option LexFault) (bytes : List ℕ) (before now : Option (List ℕ)) → Cut line tokens fault → bytes ≡ printed_tokens n tokens fault → OnErr r (PutsFront before now bytes) → IfErr r (λ stop. PutsFrontOf stop n (line ∷ []) before now)
+line_front (Ok put) n line tokens fault bytes before now cut e puts = tt
+line_front (Err stop) n line tokens fault bytes before now cut e puts =
     let puts' : PutsFront before now (printed_tokens n tokens fault) = subst (λ b. PutsFront before now b) e puts in
-    (printed_tokens n tokens fault, puts'.0, omega (arith, puts'.1), prints_one n line tokens fault cut, puts'.2)
+    (printed_tokens n tokens fault, puts'.0, part_less stop puts'.0 (printed_tokens n tokens fault) puts'.1, prints_one n line tokens fault cut, puts'.2)
 
 one_more : {X : Type 0} (line_of : X → List ℕ) (xs : List X) (i : ℕ) (d : X) → i < length xs → take (i + 1) (map line_of xs) ≡ take i (map line_of xs) ++ line_of (get_or xs i d) ∷ []
 one_more line_of xs i d lt =
@@ -81,17 +99,19 @@ lines_more line_of xs i d before between now lt p q =
     let number : i + 1 ≡ 1 + length (take i (map line_of xs)) = omega (arith, front_size line_of xs i lt) in
     subst (λ (l : List (List ℕ)). PutsLines 1 l before now) (sym (one_more line_of xs i d lt)) (puts_then 1 (take i (map line_of xs)) _ before between now p (subst (λ n. PutsLines n (line_of (get_or xs i d) ∷ []) between now) number q))
 
-pub lines_front : {X : Type 0} (line_of : X → List ℕ) (xs : List X) (i : ℕ) (d : X) (before between now : Option (List ℕ)) → i < length xs → PutsLines 1 (take i (map line_of xs)) before between → PutsFrontOf (i + 1) (line_of (get_or xs i d) ∷ []) between now → PutsFrontOf 1 (map line_of xs) before now
-lines_front line_of xs i d before between now lt p q =
+pub lines_front : {X : Type 0} (fault : PutFault) (line_of : X → List ℕ) (xs : List X) (i : ℕ) (d : X) (before between now : Option (List ℕ)) → i < length xs → PutsLines 1 (take i (map line_of xs)) before between → PutsFrontOf fault (i + 1) (line_of (get_or xs i d) ∷ []) between now → PutsFrontOf fault 1 (map line_of xs) before now
+lines_front fault line_of xs i d before between now lt p q =
     let number : i + 1 ≡ 1 + length (take i (map line_of xs)) = omega (arith, front_size line_of xs i lt) in
     let whole : take i (map line_of xs) ++ ((line_of (get_or xs i d) ∷ []) ++ drop (i + 1) (map line_of xs)) ≡ map line_of xs =
     sym (append_assoc (take i (map line_of xs)) (line_of (get_or xs i d) ∷ []) (drop (i + 1) (map line_of xs))) ∙ ap (λ l. l ++ drop (i + 1) (map line_of xs)) (sym (one_more line_of xs i d lt)) ∙ take-append-drop (i + 1) (map line_of xs) in
-    subst (λ (l : List (List ℕ)). PutsFrontOf 1 l before now) whole (front_then 1 (take i (map line_of xs)) _ (drop (i + 1) (map line_of xs)) before between now p (subst (λ n. PutsFrontOf n (line_of (get_or xs i d) ∷ []) between now) number q))
+    subst (λ (l : List (List ℕ)). PutsFrontOf fault 1 l before now) whole (front_then fault 1 (take i (map line_of xs)) _ (drop (i + 1) (map line_of xs)) before between now p (subst (λ n. PutsFrontOf fault n (line_of (get_or xs i d) ∷ []) between now) number q))
 
 -- ---- the answer of `tokens`
 
 pub tokens_whole : (bytes : List ℕ) (lines : List (List ℕ)) (p : Ports) → lines ≡ lines_of bytes → PutsLines 1 lines p.written_before p.written → (text : List ℕ) × AnswersTokens bytes status.Fine text × Wrote p text
 tokens_whole bytes lines p e puts = let all = subst (λ l. PutsLines 1 l p.written_before p.written) e puts in (all.0, (refl, all.1), all.2)
 
-pub tokens_front : (bytes : List ℕ) (lines : List (List ℕ)) (p : Ports) → lines ≡ lines_of bytes → PutsFrontOf 1 lines p.written_before p.written → (text : List ℕ) × AnswersTokens bytes status.Fine text × WroteFront p text
-tokens_front bytes lines p e puts = let all = subst (λ l. PutsFrontOf 1 l p.written_before p.written) e puts in (all.0, (refl, all.3), (all.1, all.4))
+pub tokens_front : (bytes : List ℕ) (lines : List (List ℕ)) (p : Ports) (fault : PutFault) → lines ≡ lines_of bytes → PutsFrontOf fault 1 lines p.written_before p.written → AnsweredPart AnswersTokens p bytes status.Fine fault
+tokens_front bytes lines p fault e puts =
+    let all = subst (λ l. PutsFrontOf fault 1 l p.written_before p.written) e puts in
+    (all.0, (refl, all.3), (all.1, all.2, all.4))

@@ -1,6 +1,6 @@
 -- The runs of a command that reads a text, by the status that they end with.
 use Rattle.std.proofs.Common.{◌≡◌, ℕ, ◌-◌, ◌⊎◌, inl, inr, true, List, [], length, Some, arith, sym, subst, refl}
-use Rattle.std.specs.Prelude.{Result, Ok, Err, OnOk, OnErr}
+use Rattle.std.specs.Prelude.{Result, Ok, Err, OnOk, IfErr, take}
 use Rattle.std.specs.Io.KnownBytes.{IsAtEnd}
 use Rattle.km_base.specs.declared.limits.TheConstants.{TEXT_BYTES}
 use Rattle.km_ports.specs.declared.port.PutFault.{PutFault}
@@ -14,7 +14,8 @@ use Rattle.std.proofs.lemmas.List.{take_all}
 use Rattle.km_ports.specs.Ports.{Rose, CountsPut, PutsInto}
 use Rattle.km_ports.specs.Whole.{IsWhole, IsLongerThan, CountsRead}
 use Rattle.plain_run.specs.Texts.{IsText, IsRefusedAs, says_no_text, says_done}
-use Rattle.plain_run.specs.Runs.{Ports, Wrote, WroteNothing, WroteFront, IsTextRun}
+use Rattle.plain_run.specs.Puts.{IsPart}
+use Rattle.plain_run.specs.Runs.{Ports, Wrote, WroteNothing, WroteFront, CutsOff, IsTextRun}
 use Rattle.plain_run.specs.Ending.{unread, ended}
 use Rattle.plain_run.proofs.Told.{whole_told, long_told}
 
@@ -50,6 +51,7 @@ no_text_run A p s says nothing cause = record {
   done = λ d. absurd (not_both s d says);
   ended = λ d. absurd (not_both s d says);
   front = λ input told. inl nothing;
+  less = λ e. absurd (let none : ⊥ = cc in none);
   unread = λ e. nothing;
   unwritten = λ e. nothing;
   read = λ e. absurd (let none : ⊥ = cc in none);
@@ -67,6 +69,7 @@ read_run A p nothing rose = record {
   done = λ d. absurd (let none : ⊥ = cc in none);
   ended = λ d. absurd (let none : ⊥ = cc in none);
   front = λ input told. inl nothing;
+  less = λ e. absurd (let none : ⊥ = cc in none);
   unread = λ e. nothing;
   unwritten = λ e. nothing;
   read = λ e. rose;
@@ -77,11 +80,12 @@ read_run A p nothing rose = record {
   complete = λ input told text quiet. absurd (omega (arith, rose, quiet.0));
 }
 
-memory_run : (A : List ℕ → Status → List ℕ → Type 0) (p : Ports) → ((input : List ℕ) → p.left_before ≡ Some input → WroteNothing p ⊎ ((t : Status) × (text : List ℕ) × A input t text × WroteFront p text)) → IsTextRun A p status.Memory
+memory_run : (A : List ℕ → Status → List ℕ → Type 0) (p : Ports) → ((input : List ℕ) → p.left_before ≡ Some input → WroteNothing p ⊎ (IsText input × ((t : Status) × (text : List ℕ) × A input t text × WroteFront p text))) → IsTextRun A p status.Memory
 memory_run A p front = record {
   done = λ d. absurd (let none : ⊥ = cc in none);
   ended = λ d. absurd (let none : ⊥ = cc in none);
   front = front;
+  less = λ e. absurd (let none : ⊥ = cc in none);
   unread = λ e. absurd (let none : ⊥ = cc in none);
   unwritten = λ e. absurd (let none : ⊥ = cc in none);
   read = λ e. absurd (let none : ⊥ = cc in none);
@@ -106,6 +110,10 @@ unread_run T A p refusal.Memory nothing long cause = no_memory_run A p nothing
 abbrev pub Answered : (List ℕ → Status → List ℕ → Type 0) → Ports → List ℕ → Status → Type 0
 Answered A p bytes t = (text : List ℕ) × A bytes t text × Wrote p text
 
+-- a front of it was written, and that stopped the rest
+abbrev pub AnsweredPart : (List ℕ → Status → List ℕ → Type 0) → Ports → List ℕ → Status → PutFault → Type 0
+AnsweredPart A p bytes t fault = (text : List ℕ) × A bytes t text × ((count : ℕ) × IsPart fault count text × Wrote p (take count text))
+
 -- a front of it was written
 abbrev pub AnsweredFront : (List ℕ → Status → List ℕ → Type 0) → Ports → List ℕ → Status → Type 0
 AnsweredFront A p bytes t = (text : List ℕ) × A bytes t text × WroteFront p text
@@ -113,16 +121,26 @@ AnsweredFront A p bytes t = (text : List ℕ) × A bytes t text × WroteFront p 
 answered_front : (A : List ℕ → Status → List ℕ → Type 0) (p : Ports) (bytes : List ℕ) (t : Status) → Answered A p bytes t → AnsweredFront A p bytes t
 answered_front A p bytes t a = (a.0, a.1, (length a.0, subst (λ text. PutsInto p.written_before p.written text) (sym (take_all (length a.0) a.0 (omega arith))) a.2))
 
-front_told : (A : List ℕ → Status → List ℕ → Type 0) (p : Ports) (bytes : List ℕ) (t : Status) → IsWhole p.left_before p.left bytes → AnsweredFront A p bytes t → (input : List ℕ) → p.left_before ≡ Some input → WroteNothing p ⊎ ((u : Status) × (text : List ℕ) × A input u text × WroteFront p text)
-front_told A p bytes t whole front input told =
-    let here : AnsweredFront A p input t = subst (λ b. AnsweredFront A p b t) (whole_told p.left_before p.left bytes input whole told) front in
-    inr (t, here.0, here.1, here.2)
+part_front : (A : List ℕ → Status → List ℕ → Type 0) (p : Ports) (bytes : List ℕ) (t : Status) (fault : PutFault) → AnsweredPart A p bytes t fault → AnsweredFront A p bytes t
+part_front A p bytes t fault a = (a.0, a.1, (a.2.0, a.2.2))
+
+front_told : (A : List ℕ → Status → List ℕ → Type 0) (p : Ports) (bytes : List ℕ) (t : Status) → IsWhole p.left_before p.left bytes → IsText bytes → AnsweredFront A p bytes t → (input : List ℕ) → p.left_before ≡ Some input → WroteNothing p ⊎ (IsText input × ((u : Status) × (text : List ℕ) × A input u text × WroteFront p text))
+front_told A p bytes t whole is_text front input told =
+    let here = subst (λ b. IsText b × AnsweredFront A p b t) (whole_told p.left_before p.left bytes input whole told) (is_text, front) in
+    inr (here.0, (t, here.1.0, here.1.1, here.1.2))
+
+-- where the sink failed, a part is not all
+less_told : (A : List ℕ → Status → List ℕ → Type 0) (p : Ports) (bytes : List ℕ) (t : Status) → IsWhole p.left_before p.left bytes → AnsweredPart A p bytes t put_fault.Failed → (input : List ℕ) → p.left_before ≡ Some input → CutsOff A p input
+less_told A p bytes t whole part input told =
+    let here = subst (λ b. AnsweredPart A p b t put_fault.Failed) (whole_told p.left_before p.left bytes input whole told) part in
+    (t, here.0, here.1, here.2)
 
 done_run : (A : List ℕ → Status → List ℕ → Type 0) (p : Ports) (bytes : List ℕ) (t : Status) → says_done t ≡ true → IsWhole p.left_before p.left bytes → IsAtEnd p.left → IsText bytes → Answered A p bytes t → IsTextRun A p t
 done_run A p bytes t says whole end is_text answer = record {
   done = λ d input told. subst (λ b. IsText b × Answered A p b t) (whole_told p.left_before p.left bytes input whole told) (is_text, answer);
   ended = λ d. end;
-  front = front_told A p bytes t whole (answered_front A p bytes t answer);
+  front = front_told A p bytes t whole is_text (answered_front A p bytes t answer);
+  less = λ e. absurd (let none : ⊥ = cc in none);
   unread = λ e. absurd (let none : ⊥ = cc in none);
   unwritten = λ e. absurd (not_both t says e);
   read = λ e. absurd (let none : ⊥ = cc in none);
@@ -133,11 +151,12 @@ done_run A p bytes t says whole end is_text answer = record {
   complete = λ input told text quiet. inl says;
 }
 
-write_run : (A : List ℕ → Status → List ℕ → Type 0) (p : Ports) (bytes : List ℕ) (t : Status) → IsWhole p.left_before p.left bytes → IsText bytes → AnsweredFront A p bytes t → Rose p.sink_faults_before p.sink_faults → IsTextRun A p status.Write
+write_run : (A : List ℕ → Status → List ℕ → Type 0) (p : Ports) (bytes : List ℕ) (t : Status) → IsWhole p.left_before p.left bytes → IsText bytes → AnsweredPart A p bytes t put_fault.Failed → Rose p.sink_faults_before p.sink_faults → IsTextRun A p status.Write
 write_run A p bytes t whole is_text answer rose = record {
   done = λ d. absurd (let none : ⊥ = cc in none);
   ended = λ d. absurd (let none : ⊥ = cc in none);
-  front = front_told A p bytes t whole answer;
+  front = front_told A p bytes t whole is_text (part_front A p bytes t put_fault.Failed answer);
+  less = λ e. less_told A p bytes t whole answer;
   unread = λ e. absurd (let none : ⊥ = cc in none);
   unwritten = λ e. absurd (let none : ⊥ = cc in none);
   read = λ e. absurd (let none : ⊥ = cc in none);
@@ -149,10 +168,10 @@ write_run A p bytes t whole is_text answer rose = record {
 }
 
 -- the work on a text was done, and its answer was put, or a front of it
-pub worked_run : (T : Type 0) (A : List ℕ → Status → List ℕ → Type 0) (p : Ports) (bytes : List ℕ) (t : Status) (r : Result T PutFault) → says_done t ≡ true → IsWhole p.left_before p.left bytes → IsAtEnd p.left → IsText bytes → OnOk r (Answered A p bytes t) → OnErr r (AnsweredFront A p bytes t) → CountsPut p.sink_faults_before p.sink_faults r → IsTextRun A p (ended t r)
+pub worked_run : (T : Type 0) (A : List ℕ → Status → List ℕ → Type 0) (p : Ports) (bytes : List ℕ) (t : Status) (r : Result T PutFault) → says_done t ≡ true → IsWhole p.left_before p.left bytes → IsAtEnd p.left → IsText bytes → OnOk r (Answered A p bytes t) → IfErr r (AnsweredPart A p bytes t) → CountsPut p.sink_faults_before p.sink_faults r → IsTextRun A p (ended t r)
 worked_run T A p bytes t (Ok put) says whole end is_text answer front cause = done_run A p bytes t says whole end is_text answer
 worked_run T A p bytes t (Err put_fault.Failed) says whole end is_text answer front cause = write_run A p bytes t whole is_text front cause
-worked_run T A p bytes t (Err put_fault.Memory) says whole end is_text answer front cause = memory_run A p (front_told A p bytes t whole front)
+worked_run T A p bytes t (Err put_fault.Memory) says whole end is_text answer front cause = memory_run A p (front_told A p bytes t whole is_text (part_front A p bytes t put_fault.Memory front))
 
 -- the input was read, and it is no text, or memory was wanted
 pub refused_run : (A : List ℕ → Status → List ℕ → Type 0) (p : Ports) (bytes : List ℕ) (s : Status) → WroteNothing p → IsWhole p.left_before p.left bytes → (s ≡ status.Memory) ⊎ ((says_no_text s ≡ true) × IsRefusedAs bytes s) → IsTextRun A p s

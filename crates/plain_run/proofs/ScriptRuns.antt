@@ -1,11 +1,11 @@
 -- The parts of a run of `plain`, one after another.
-use Rattle.std.proofs.Common.{◌≡◌, ℕ, ◌+◌, ◌≤◌, inl, inr, List, [], ◌∷◌, ◌++◌, length, Option, Some, None, sym, ap, subst, ◌∙◌, refl, append_assoc, append-nil, length-append, arith}
+use Rattle.std.proofs.Common.{◌≡◌, ℕ, ◌+◌, ◌<◌, ◌≤◌, inl, inr, List, [], ◌∷◌, ◌++◌, length, Option, Some, sym, ap, subst, ◌∙◌, refl, append_assoc, append-nil, length-append, arith}
 use Rattle.std.specs.Prelude.{Result, Ok, Err}
 use Rattle.std.specs.Io.KnownBytes.{IsAtEnd}
 use Rattle.km_base.specs.declared.limits.TheConstants.{SCRIPT_BYTES}
 use Rattle.km_ports.specs.Ports.{TakesFrom, PutsInto}
-use Rattle.km_ports.specs.Whole.{IsLongerThan}
-use Rattle.km_ports.proofs.PortLaws.{TakesFrom-then, TakesFrom-nothing, IsWhole-at_end}
+use Rattle.km_ports.specs.Whole.{TakesExactly, TakesUpTo}
+use Rattle.km_ports.proofs.PortLaws.{TakesFrom-then, TakesFrom-nothing, IsWhole-at_end, IsLongerThan-taken}
 use Rattle.km_ports.specs.declared.status.Status.{Status}
 use Rattle.km_ports.specs.declared.status.Status.TheVariants as status
 use Rattle.km_ports.specs.declared.status.Excess.TheVariants as excess
@@ -24,20 +24,26 @@ use Rattle.plain_run.proofs.Carried.{puts_carried, puts_nothing, put_behind}
 use Rattle.plain_run.proofs.Answered.{plain_of}
 use Rattle.plain_run.proofs.Told.{whole_told, long_told}
 
--- more bytes than `room` stand behind these bytes
-longer_behind : (most room : ℕ) (before now : Option (List ℕ)) (fed : List ℕ) → length fed + room ≡ most → TakesFrom before now fed → IsLongerThan room now → IsLongerThan most before
-longer_behind most room None now fed e t l = tt
-longer_behind most room (Some left) None fed e t l = absurd (let none : ⊥ = cc in none)
-longer_behind most room (Some left) (Some rest) fed e t l =
-    let all : left ≡ fed ++ rest = cc in
-    omega (arith, ap length all, length-append fed rest, l, e)
+-- one byte more than `room` was taken behind these bytes
+exactly_behind : (most room : ℕ) (before between now : Option (List ℕ)) (fed : List ℕ) → length fed + room ≡ most → TakesFrom before between fed → TakesExactly (room + 1) between now → TakesExactly (most + 1) before now
+exactly_behind most room before between now fed e t l =
+    (fed ++ l.0, omega (arith, length-append fed l.0, l.1, e), TakesFrom-then before between now fed l.0 t l.2)
+
+-- at most so many were
+pub up_to_behind : (most room : ℕ) (before between now : Option (List ℕ)) (fed : List ℕ) → length fed + room ≡ most → TakesFrom before between fed → TakesUpTo (room + 1) between now → TakesUpTo (most + 1) before now
+up_to_behind most room before between now fed e t l =
+    (fed ++ l.0, omega (arith, length-append fed l.0, l.1, e), TakesFrom-then before between now fed l.0 t l.2)
+
+-- nothing was taken
+pub up_to_nothing : (most : ℕ) (left : Option (List ℕ)) → TakesUpTo most left left
+up_to_nothing most left = ([], omega arith, TakesFrom-nothing left)
 
 -- a part stops behind a part that carried these bytes, and in which nothing failed
 pub stops_behind : (T U : Type 0) (most room : ℕ) (fed : List ℕ) (left0 left1 left2 : Option (List ℕ)) (s0 s1 s2 : ℕ) (w0 w1 w2 : Option (List ℕ)) (k0 k1 k2 : ℕ) (s : Status) → length fed + room ≡ most → TakesFrom left0 left1 fed → s1 ≡ s0 → k1 ≡ k0 → StopsFor {T = T} room (ports left1 left2 s1 s2 w1 w2 k1 k2) (Err s) → StopsFor {T = U} most (ports left0 left2 s0 s2 w0 w2 k0 k2) (Err s)
 stops_behind T U most room fed left0 left1 left2 s0 s1 s2 w0 w1 w2 k0 k1 k2 status.Read e t s k c = omega (arith, c, s)
 stops_behind T U most room fed left0 left1 left2 s0 s1 s2 w0 w1 w2 k0 k1 k2 status.Write e t s k c = omega (arith, c, k)
 stops_behind T U most room fed left0 left1 left2 s0 s1 s2 w0 w1 w2 k0 k1 k2 status.Memory e t s k c = tt
-stops_behind T U most room fed left0 left1 left2 s0 s1 s2 w0 w1 w2 k0 k1 k2 (status.TooLong excess.Bytes) e t s k c = longer_behind most room left0 left1 fed e t c
+stops_behind T U most room fed left0 left1 left2 s0 s1 s2 w0 w1 w2 k0 k1 k2 (status.TooLong excess.Bytes) e t s k c = exactly_behind most room left0 left1 left2 fed e t c
 stops_behind T U most room fed left0 left1 left2 s0 s1 s2 w0 w1 w2 k0 k1 k2 (status.TooLong excess.Lines) e t s k c = c
 stops_behind T U most room fed left0 left1 left2 s0 s1 s2 w0 w1 w2 k0 k1 k2 (status.TooLong (excess.Characters n)) e t s k c = c
 stops_behind T U most room fed left0 left1 left2 s0 s1 s2 w0 w1 w2 k0 k1 k2 (status.NotUtf8 n) e t s k c = c
@@ -79,57 +85,72 @@ whole_plain margin fed more last b c w0 w1 w2 w3 w4 m pm em el pa pl pb =
 
 -- ---- the status
 
-stopped_run : (p : Ports) (s : Status) → StopsFor {T = Unit {0}} SCRIPT_BYTES p (Err s) → IsScriptRun p s
-stopped_run p status.Read c = record {
+-- one byte more than the limit was taken, so the script has more
+excess_told : (p : Ports) (input : List ℕ) → TakesExactly (SCRIPT_BYTES + 1) p.left_before p.left → p.left_before ≡ Some input → SCRIPT_BYTES < length input
+excess_told p input c told =
+    long_told SCRIPT_BYTES p.left_before input (IsLongerThan-taken SCRIPT_BYTES p.left_before p.left c.0 (omega (arith, c.1)) c.2) told
+
+pub stopped_run : (p : Ports) (s : Status) → TakesUpTo (SCRIPT_BYTES + 1) p.left_before p.left → StopsFor {T = Unit {0}} SCRIPT_BYTES p (Err s) → IsScriptRun p s
+stopped_run p status.Read t c = record {
   done = λ e. absurd (let none : ⊥ = cc in none);
   ended = λ e. absurd (let none : ⊥ = cc in none);
+  taken = t;
   read = λ e. c;
   write = λ e. absurd (let none : ⊥ = cc in none);
   long = λ e. absurd (let none : ⊥ = cc in none);
+  excess = λ e. absurd (let none : ⊥ = cc in none);
   listed = refl;
   complete = λ input told within quiet. absurd (omega (arith, c, quiet.0));
 }
-stopped_run p status.Write c = record {
+stopped_run p status.Write t c = record {
   done = λ e. absurd (let none : ⊥ = cc in none);
   ended = λ e. absurd (let none : ⊥ = cc in none);
+  taken = t;
   read = λ e. absurd (let none : ⊥ = cc in none);
   write = λ e. c;
   long = λ e. absurd (let none : ⊥ = cc in none);
+  excess = λ e. absurd (let none : ⊥ = cc in none);
   listed = refl;
   complete = λ input told within quiet. absurd (omega (arith, c, quiet.1));
 }
-stopped_run p status.Memory c = record {
+stopped_run p status.Memory t c = record {
   done = λ e. absurd (let none : ⊥ = cc in none);
   ended = λ e. absurd (let none : ⊥ = cc in none);
+  taken = t;
   read = λ e. absurd (let none : ⊥ = cc in none);
   write = λ e. absurd (let none : ⊥ = cc in none);
   long = λ e. absurd (let none : ⊥ = cc in none);
+  excess = λ e. absurd (let none : ⊥ = cc in none);
   listed = refl;
   complete = λ input told within quiet. inr refl;
 }
-stopped_run p (status.TooLong excess.Bytes) c = record {
+stopped_run p (status.TooLong excess.Bytes) t c = record {
   done = λ e. absurd (let none : ⊥ = cc in none);
   ended = λ e. absurd (let none : ⊥ = cc in none);
+  taken = t;
   read = λ e. absurd (let none : ⊥ = cc in none);
   write = λ e. absurd (let none : ⊥ = cc in none);
-  long = λ e input told. long_told SCRIPT_BYTES p.left_before input c told;
+  long = λ e input told. excess_told p input c told;
+  excess = λ e. c;
   listed = refl;
-  complete = λ input told within quiet. absurd (omega (arith, within, long_told SCRIPT_BYTES p.left_before input c told));
+  complete = λ input told within quiet. absurd (omega (arith, within, excess_told p input c told));
 }
-stopped_run p (status.TooLong excess.Lines) c = absurd c
-stopped_run p (status.TooLong (excess.Characters n)) c = absurd c
-stopped_run p (status.NotUtf8 n) c = absurd c
-stopped_run p status.Fine c = absurd c
-stopped_run p status.Faults c = absurd c
-stopped_run p status.Words c = absurd c
+stopped_run p (status.TooLong excess.Lines) t c = absurd c
+stopped_run p (status.TooLong (excess.Characters n)) t c = absurd c
+stopped_run p (status.NotUtf8 n) t c = absurd c
+stopped_run p status.Fine t c = absurd c
+stopped_run p status.Faults t c = absurd c
+stopped_run p status.Words t c = absurd c
 
 pub done_run : (p : Ports) (fed : List ℕ) → length fed ≤ SCRIPT_BYTES → TakesFrom p.left_before p.left fed → IsAtEnd p.left → PutsEntries (IsPlain (requests fed)) p.written_before p.written → IsScriptRun p status.Fine
 done_run p fed within took end put = record {
   done = λ e input told. subst (λ i. (length i ≤ SCRIPT_BYTES) × PutsEntries (IsPlain (requests i)) p.written_before p.written) (whole_told p.left_before p.left fed input (IsWhole-at_end p.left_before p.left fed took end) told) (within, put);
   ended = λ e. end;
+  taken = (fed, omega (arith, within), took);
   read = λ e. absurd (let none : ⊥ = cc in none);
   write = λ e. absurd (let none : ⊥ = cc in none);
   long = λ e. absurd (let none : ⊥ = cc in none);
+  excess = λ e. absurd (let none : ⊥ = cc in none);
   listed = refl;
   complete = λ input told within quiet. inl refl;
 }

@@ -1,7 +1,7 @@
 -- How the code goes over requests: it keeps the accepted edits, and no entries.
-use Rattle.std.specs.Prelude.{◌≡◌, ℕ, ⊤, List, [], ◌∷◌, ◌++◌, length, Result, Ok, Err}
+use Rattle.std.specs.Prelude.{◌≡◌, ℕ, ◌+◌, ⊤, List, [], ◌∷◌, ◌++◌, length, Result, Ok, Err}
 use Rattle.km_ports.specs.Ports.{Rose, TakesFrom}
-use Rattle.km_ports.specs.Whole.{IsLongerThan}
+use Rattle.km_ports.specs.Whole.{TakesExactly}
 use Rattle.km_ports.specs.declared.status.Status.{Status}
 use Rattle.km_ports.specs.declared.status.Status.TheVariants as status
 use Rattle.km_ports.specs.declared.status.Excess.TheVariants as excess
@@ -57,14 +57,14 @@ Carries edits (r ∷ requests) entries after =
 
 -- ---- parts of a run
 
--- why a part of a run stopped, where so many bytes might still come: the source or the sink failed, more bytes came, or
--- memory was wanted
+-- why a part of a run stopped, where so many bytes might still come: the source or the sink failed, one byte more than
+-- these was taken, or memory was wanted
 abbrev pub StopsFor : {T : Type 0} → ℕ → Ports → Result T Status → Type 0
 StopsFor room p (Ok x) = NothingFailed p
 StopsFor room p (Err status.Read) = Rose p.source_faults_before p.source_faults
 StopsFor room p (Err status.Write) = Rose p.sink_faults_before p.sink_faults
 StopsFor room p (Err status.Memory) = ⊤
-StopsFor room p (Err (status.TooLong excess.Bytes)) = IsLongerThan room p.left_before
+StopsFor room p (Err (status.TooLong excess.Bytes)) = TakesExactly (room + 1) p.left_before p.left
 StopsFor room p (Err _) = ⊥
 
 -- these bytes were read behind those before, and the requests that they complete were carried out

@@ -5,7 +5,6 @@ pub mod Printed
 pub mod Checked
 pub mod Puts
 pub mod Ending
-pub mod Answer
 pub mod Plain
 pub mod Carried
 pub mod Scripts

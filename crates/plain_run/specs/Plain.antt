@@ -11,7 +11,7 @@ use Rattle.transcript.specs.declared.entry.Entry.TheVariants as entry
 use Rattle.transcript.specs.Print.{print}
 use Rattle.incr_analysis.specs.Full.{Full}
 use Rattle.km_ports.specs.Ports.{PutsInto}
-use Rattle.plain_run.specs.Answer.{accepted, Answer}
+use Rattle.script_lines.specs.Answer.{accepted, Answer}
 
 -- the entry is the margin of version v: the full analysis of the text that the first v of the accepted edits make
 abbrev pub IsMarginOf : List Edit → ℕ → Entry → Type 0

@@ -3,6 +3,7 @@ use Rattle.std.specs.Prelude.{◌≡◌, ◌≢◌, ℕ, ◌⊎◌, true, List, 
 use Rattle.std.specs.declared.option.Option.{Option}
 use Rattle.std.specs.Io.KnownBytes.{IsAtEnd}
 use Rattle.km_ports.specs.Ports.{PutsInto, Rose}
+use Rattle.km_ports.specs.Whole.{PutsFront}
 use Rattle.km_ports.specs.declared.status.Status.{Status}
 use Rattle.km_ports.specs.declared.status.Status.TheVariants as status
 use Rattle.plain_run.specs.Texts.{IsText, IsRefusedAs, says_no_text, says_done}
@@ -43,6 +44,10 @@ WroteNothing p = p.written ≡ p.written_before
 abbrev pub WroteFront : Ports → List ℕ → Type 0
 WroteFront p text = (count : ℕ) × Wrote p (take count text)
 
+-- a front of an answer to the input was written, and not all of it
+abbrev pub CutsOff : (List ℕ → Status → List ℕ → Type 0) → Ports → List ℕ → Type 0
+CutsOff Answers p input = (t : Status) × (text : List ℕ) × Answers input t text × PutsFront p.written_before p.written text
+
 -- nothing was read or written, and nothing failed
 pub record IsUntouched (p : Ports) : Type 0 where
   pub read_nothing : p.left ≡ p.left_before
@@ -64,8 +69,10 @@ pub record IsTextRun (Answers : List ℕ → Status → List ℕ → Type 0) (p 
   -- where the work was done the input was a text, it was read to its end, and the whole answer was written
   pub done : says_done s ≡ true → (input : List ℕ) → p.left_before ≡ Some input → IsText input × ((text : List ℕ) × Answers input s text × Wrote p text)
   pub ended : says_done s ≡ true → IsAtEnd p.left
-  -- at every status nothing was written, or a front of that answer
-  pub front : (input : List ℕ) → p.left_before ≡ Some input → WroteNothing p ⊎ ((t : Status) × (text : List ℕ) × Answers input t text × WroteFront p text)
+  -- at every status nothing was written, or the input is a text and a front of that answer was written
+  pub front : (input : List ℕ) → p.left_before ≡ Some input → WroteNothing p ⊎ (IsText input × ((t : Status) × (text : List ℕ) × Answers input t text × WroteFront p text))
+  -- where the sink refused, not all of that answer
+  pub less : s ≡ status.Write → (input : List ℕ) → p.left_before ≡ Some input → CutsOff Answers p input
   -- where reading refused, nothing was written
   pub unread : s ≡ status.Read → WroteNothing p
   pub unwritten : says_no_text s ≡ true → WroteNothing p

@@ -4,9 +4,9 @@ ghost use Rattle.std.specs.Prelude.{◌≡◌, ◌≤◌, ◌+◌, All, map, tru
 ghost use Rattle.std.specs.Str.{chars};
 ghost use Rattle.std.specs.String.{string_bytes};
 ghost use Rattle.text_versions.specs.Texts.{is_within};
-ghost use Rattle.plain_run.specs.Checked.{AnswersCheck, IsChecked, verdict};
+ghost use Rattle.plain_run.specs.Checked.{IsChecked, IsCheckRun, verdict};
 ghost use Rattle.plain_run.specs.Feeds.{HasNoFeed, weight};
-ghost use Rattle.plain_run.specs.Runs.{IsTextRun, ports};
+ghost use Rattle.plain_run.specs.Runs.{ports};
 ghost use Rattle.plain_run.specs.Texts.{AreLines};
 ghost use Rattle.incr_analysis.specs.Full.{Full};
 
@@ -84,7 +84,7 @@ fn answer_of(alloc: Global, lines: &[&str]) -> Result<Answer, Memory>
 
 /// Reads a text and prints its margin (docs/PROGRAM.md, "check"): a line for each line with a fault, with its code.
 pub fn check_text<I: Source, O: Sink>(alloc: Global, input: &mut I, output: &mut O) -> Status
-    ensures run { IsTextRun AnswersCheck (ports (I.left input.old) (I.left input.new) (I.faults input.old) (I.faults input.new) (O.written output.old) (O.written output.new) (O.faults output.old) (O.faults output.new)) result }
+    ensures run { IsCheckRun (ports (I.left input.old) (I.left input.new) (I.faults input.old) (I.faults input.new) (O.written output.old) (O.written output.new) (O.faults output.old) (O.faults output.new)) result }
 {
     let bytes = match read_within(alloc, input, TEXT_BYTES) {
         Ok(bytes) => bytes,

@@ -3,6 +3,7 @@
 ghost use Rattle.std.specs.Prelude.{◌≡◌, ◌≤◌, ◌<◌, ◌+◌, ◌++◌, ◌∷◌, ℕ, List, [], length, Some, Option, IfOk, IfSome, OnOk};
 ghost use Rattle.std.specs.Io.KnownBytes.{IsAtEnd};
 ghost use Rattle.km_ports.specs.Ports.{TakesFrom};
+ghost use Rattle.km_ports.specs.Whole.{TakesUpTo};
 ghost use Rattle.script_lines.specs.Requests.{whole, requests};
 ghost use Rattle.script_lines.specs.declared.request.Request.{Request};
 ghost use Rattle.plain_run.specs.Ending.{StopsPut};
@@ -23,7 +24,7 @@ use transcript::Entry;
 const PIECE_BYTES: usize = 4096;
 
 // Takes bytes into the buffer once, and carries out the requests that they complete, where `room` bytes may still come.
-// Answers how many bytes came.
+// It asks for no more than these and one. Answers how many bytes came.
 fn carry_piece<I: Source, O: Sink>(
     alloc: Global,
     reader: &mut ScriptReader,
@@ -38,9 +39,11 @@ fn carry_piece<I: Source, O: Sink>(
     ensures carried { (fed : List ℕ) → reader.old ≡ Some fed → IfOk result (λ count. (piece : List ℕ) × (length piece ≡ count) × (reader.new ≡ Some (fed ++ piece)) × HasCarried (ports (I.left input.old) (I.left input.new) (I.faults input.old) (I.faults input.new) (O.written output.old) (O.written output.new) (O.faults output.old) (O.faults output.new)) fed piece versions.old versions.new) }
     ensures within { IfOk result (λ count. count ≤ room) }
     ensures end { IfOk result (λ count. count ≡ 0 → IsAtEnd (I.left input.old)) }
+    ensures taken { TakesUpTo (room + 1) (I.left input.old) (I.left input.new) }
     ensures cause { StopsFor room (ports (I.left input.old) (I.left input.new) (I.faults input.old) (I.faults input.new) (O.written output.old) (O.written output.new) (O.faults output.old) (O.faults output.new)) result }
 {
-    let Ok(count) = input.take(buffer) else {
+    let asked = room.min(buffer.len() - 1) + 1;
+    let Ok(count) = input.take(&mut buffer[..asked]) else {
         return Err(Status::Read);
     };
     if count > room {
@@ -63,6 +66,7 @@ fn carry_pieces<I: Source, O: Sink>(
 ) -> Result<ScriptReader, Status>
     ensures carried { IfOk result (λ reader. (fed : List ℕ) × (reader ≡ Some fed) × (length fed ≤ SCRIPT_BYTES) × HasCarried (ports (I.left input.old) (I.left input.new) (I.faults input.old) (I.faults input.new) (O.written output.old) (O.written output.new) (O.faults output.old) (O.faults output.new)) [] fed versions.old versions.new) }
     ensures end { OnOk result (IsAtEnd (I.left input.new)) }
+    ensures taken { TakesUpTo (SCRIPT_BYTES + 1) (I.left input.old) (I.left input.new) }
     ensures cause { StopsFor SCRIPT_BYTES (ports (I.left input.old) (I.left input.new) (I.faults input.old) (I.faults input.new) (O.written output.old) (O.written output.new) (O.faults output.old) (O.faults output.new)) result }
 {
     let mut reader = ScriptReader::new(alloc);
@@ -113,6 +117,7 @@ fn carry_script<I: Source, O: Sink>(
 ) -> Result<(), Status>
     ensures carried { OnOk result ((fed : List ℕ) × (length fed ≤ SCRIPT_BYTES) × TakesFrom (I.left input.old) (I.left input.new) fed × PutsEntries (IsPlain (requests fed)) (O.written output.old) (O.written output.new)) }
     ensures end { OnOk result (IsAtEnd (I.left input.new)) }
+    ensures taken { TakesUpTo (SCRIPT_BYTES + 1) (I.left input.old) (I.left input.new) }
     ensures cause { StopsFor SCRIPT_BYTES (ports (I.left input.old) (I.left input.new) (I.faults input.old) (I.faults input.new) (O.written output.old) (O.written output.new) (O.faults output.old) (O.faults output.new)) result }
 {
     let Ok(mut versions) = Versions::new(alloc) else {

@@ -1,6 +1,6 @@
 //! The command `tokens`.
 
-ghost use Rattle.std.specs.Prelude.{◌≡◌, ◌≢◌, ◌≤◌, ◌<◌, ◌+◌, ℕ, List, [], ◌∷◌, Option, length, map, All, IfOk, OnOk, OnErr, Some};
+ghost use Rattle.std.specs.Prelude.{◌≡◌, ◌≢◌, ◌≤◌, ◌<◌, ◌+◌, ℕ, List, [], ◌∷◌, Option, length, map, All, IfOk, IfErr, OnOk, Some};
 ghost use Rattle.std.specs.Str.{chars};
 ghost use Rattle.kumir_tree.specs.Lines.{lines_of};
 ghost use Rattle.km_ports.specs.declared.status.Status.TheVariants as status;
@@ -20,7 +20,7 @@ use std::alloc::Global;
 fn put_line<O: Sink>(alloc: Global, number: u32, line: &str, output: &mut O) -> Result<(), PutFault>
     requires { length line.now < 4294967295 }
     ensures whole { OnOk result (PutsLines number (chars line.now ∷ []) (O.written output.old) (O.written output.new)) }
-    ensures front { OnErr result (PutsFrontOf number (chars line.now ∷ []) (O.written output.old) (O.written output.new)) }
+    ensures front { IfErr result (λ fault. PutsFrontOf fault number (chars line.now ∷ []) (O.written output.old) (O.written output.new)) }
     ensures later { O.faults output.old ≤ O.faults output.new }
     ensures cause { CountsPut (O.faults output.old) (O.faults output.new) result }
 {
@@ -38,7 +38,7 @@ fn put_lines<O: Sink>(alloc: Global, lines: &[&str], output: &mut O) -> Result<(
     requires fewer { length lines.now < 4294967295 }
     requires short { All (λ line. length line.now < 4294967295) lines.now }
     ensures whole { OnOk result (PutsLines 1 (map (λ line. chars line.now) lines.now) (O.written output.old) (O.written output.new)) }
-    ensures front { OnErr result (PutsFrontOf 1 (map (λ line. chars line.now) lines.now) (O.written output.old) (O.written output.new)) }
+    ensures front { IfErr result (λ fault. PutsFrontOf fault 1 (map (λ line. chars line.now) lines.now) (O.written output.old) (O.written output.new)) }
     ensures later { O.faults output.old ≤ O.faults output.new }
     ensures cause { CountsPut (O.faults output.old) (O.faults output.new) result }
 {

@@ -3,3 +3,4 @@ pub mod Words
 pub mod Requests
 pub mod Begun
 pub mod Reader
+pub mod Answer

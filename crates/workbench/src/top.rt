@@ -4,7 +4,7 @@ ghost use Rattle.std.specs.Prelude.{◌≡◌, ◌≢◌, ◌↔◌, map, None, 
 ghost use Rattle.std.specs.String.{string_bytes};
 ghost use Rattle.km_ports.specs.declared.status.Status.TheVariants as status;
 ghost use Rattle.workbench.specs.Words.{command_of};
-ghost use Rattle.plain_run.specs.Checked.{AnswersCheck};
+ghost use Rattle.plain_run.specs.Checked.{IsCheckRun};
 ghost use Rattle.plain_run.specs.Printed.{AnswersTokens};
 ghost use Rattle.plain_run.specs.Runs.{IsTextRun, IsUntouched, ports};
 ghost use Rattle.plain_run.specs.Scripts.{IsScriptRun};
@@ -50,7 +50,7 @@ pub fn workbench<I: Source, O: Sink>(
 
     ensures tokens { command_of (map (λ word. string_bytes word) words.now) ≡ Some Command.Tokens → IsTextRun AnswersTokens (ports (I.left input.old) (I.left input.new) (I.faults input.old) (I.faults input.new) (O.written output.old) (O.written output.new) (O.faults output.old) (O.faults output.new)) result }
 
-    ensures check { command_of (map (λ word. string_bytes word) words.now) ≡ Some Command.Check → IsTextRun AnswersCheck (ports (I.left input.old) (I.left input.new) (I.faults input.old) (I.faults input.new) (O.written output.old) (O.written output.new) (O.faults output.old) (O.faults output.new)) result }
+    ensures check { command_of (map (λ word. string_bytes word) words.now) ≡ Some Command.Check → IsCheckRun (ports (I.left input.old) (I.left input.new) (I.faults input.old) (I.faults input.new) (O.written output.old) (O.written output.new) (O.faults output.old) (O.faults output.new)) result }
 
     ensures plain { command_of (map (λ word. string_bytes word) words.now) ≡ Some Command.Plain → IsScriptRun (ports (I.left input.old) (I.left input.new) (I.faults input.old) (I.faults input.new) (O.written output.old) (O.written output.new) (O.faults output.old) (O.faults output.new)) result }
 

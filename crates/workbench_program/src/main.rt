@@ -1,9 +1,10 @@
 //! The program: standard input and output, handed to the top call.
 #![tactic(auto)]
 
-use km_ports::{StdSink, StdSource};
+use km_ports::{Status, StdSink, StdSource};
 use std::alloc::AllocError;
 use std::env;
+use std::io::ErrorKind;
 use std::process::ExitCode;
 use workbench::{Complaint, workbench};
 
@@ -16,18 +17,26 @@ fn words_of(rt: &HostRuntime) -> Result<Vec<String>, AllocError> {
                 words.push(word)?;
             }
         }
+        Err(error) if error.kind() == ErrorKind::OutOfMemory => return Err(AllocError),
         Err(_) => words.push(String::from_str(rt.alloc(), "-")?)?,
     }
     Ok(words)
 }
 
-fn main(rt: HostRuntime) -> Result<ExitCode, AllocError> {
-    let words = words_of(&rt)?;
+// Carries out the command of the arguments. Without memory for these there is none.
+fn run(rt: &HostRuntime) -> Status {
+    let Ok(words) = words_of(rt) else {
+        return Status::Memory;
+    };
     let mut input = StdSource::new(rt.stdin());
     let mut output = StdSink::new(rt.stdout());
-    let status = workbench(rt.alloc(), words.as_slice(), &mut input, &mut output);
+    workbench(rt.alloc(), words.as_slice(), &mut input, &mut output)
+}
+
+fn main(rt: HostRuntime) -> ExitCode {
+    let status = run(&rt);
     if let Some(complaint) = Complaint::of(&status) {
         let _ = rt.eprintln(complaint);
     }
-    Ok(ExitCode::from(status.number()))
+    ExitCode::from(status.number())
 }

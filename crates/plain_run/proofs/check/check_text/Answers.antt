@@ -1,8 +1,8 @@
 use Rattle.std.proofs.Common.{◌≡◌, map, sym, subst, ◌∙◌, ap}
 use Rattle.std.specs.Str.{chars}
 use Rattle.km_ports.specs.Whole.{IsWhole}
-use Rattle.plain_run.specs.Checked.{AnswersCheck}
-use Rattle.plain_run.specs.Runs.{ports, IsTextRun}
+use Rattle.plain_run.specs.Checked.{IsCheckRun}
+use Rattle.plain_run.specs.Runs.{ports}
 use Rattle.plain_run.proofs.Checks.{checked_run}
 use Rattle.plain_run.proofs.check.check_text.Goals as goal
 
@@ -11,7 +11,7 @@ returns-in-Ok-answer_of g c =
     let p = ports (g.I.Source.left c.args.input.now) (g.I.Source.left c.read_within.new.input) (g.I.Source.faults c.args.input.now) (g.I.Source.faults c.read_within.new.input) (g.O.Sink.written c.args.output.now) (g.O.Sink.written c.put_all.new.output) (g.O.Sink.faults c.args.output.now) (g.O.Sink.faults c.put_all.new.output) in
     let same : c.deref.result.now ≡ c.in-Ok.bytes.items = c.deref.ensures.value in
     record {
-      run = subst (IsTextRun AnswersCheck p) (sym c.ended.ensures) (checked_run _ p c.deref.result.now (map (λ line. chars line.now) c.as_slice.result.now) c.in-Ok-answer_of.answer.status _ c.as_bytes.result.now c.put_all.result
+      run = subst (IsCheckRun p) (sym c.ended.ensures) (checked_run _ p c.deref.result.now (map (λ line. chars line.now) c.as_slice.result.now) c.in-Ok-answer_of.answer.status _ c.as_bytes.result.now c.put_all.result
           (subst (IsWhole p.left_before p.left) (sym same) c.in-Ok.ensures.whole)
           c.in-Ok.ensures.end
           c.in-Ok-text_lines.ensures.text

@@ -5,7 +5,7 @@ use Rattle.km_base.specs.declared.limits.TheConstants.{SCRIPT_BYTES}
 use Rattle.plain_run.specs.Runs.{ports}
 use Rattle.plain_run.specs.Carried.{StopsFor}
 use Rattle.plain_run.proofs.Carried.{if_ok_here}
-use Rattle.plain_run.proofs.ScriptRuns.{carried_none, more_carried, stops_behind}
+use Rattle.plain_run.proofs.ScriptRuns.{carried_none, more_carried, stops_behind, up_to_behind}
 use Rattle.plain_run.proofs.script.carry_pieces.Goals as goal
 
 pub loop-reader-init : goal.loop-reader-init
@@ -44,3 +44,8 @@ returns-in_err-count-clause-cause g c =
     let i = c.loop-reader.invariant in
     let p = err_from_is_err_and c.from_residual.result c.from_residual.ensures.1 in
     subst (λ r. StopsFor SCRIPT_BYTES (ports (g.I.Source.left c.args.input.now) (g.I.Source.left c.carry_piece.new.input) (g.I.Source.faults c.args.input.now) (g.I.Source.faults c.carry_piece.new.input) (g.O.Sink.written c.args.output.now) (g.O.Sink.written c.carry_piece.new.output) (g.O.Sink.faults c.args.output.now) (g.O.Sink.faults c.carry_piece.new.output)) r) (sym (p.1 ∙ ap Err p.2)) (stops_behind ℕ ℕ SCRIPT_BYTES c.loop-reader.room i.fed (g.I.Source.left c.args.input.now) (g.I.Source.left c.loop-reader.input) (g.I.Source.left c.carry_piece.new.input) (g.I.Source.faults c.args.input.now) (g.I.Source.faults c.loop-reader.input) (g.I.Source.faults c.carry_piece.new.input) (g.O.Sink.written c.args.output.now) (g.O.Sink.written c.loop-reader.output) (g.O.Sink.written c.carry_piece.new.output) (g.O.Sink.faults c.args.output.now) (g.O.Sink.faults c.loop-reader.output) (g.O.Sink.faults c.carry_piece.new.output) _ i.left i.carried.taken i.source i.sink c.in_err-count.ensures.cause)
+
+pub returns-in_err-count-clause-taken : goal.returns-in_err-count-clause-taken
+returns-in_err-count-clause-taken g c =
+    let i = c.loop-reader.invariant in
+    up_to_behind SCRIPT_BYTES c.loop-reader.room (g.I.Source.left c.args.input.now) (g.I.Source.left c.loop-reader.input) (g.I.Source.left c.carry_piece.new.input) i.fed i.left i.carried.taken c.in_err-count.ensures.taken

@@ -1,6 +1,6 @@
 use Rattle.std.proofs.Common.{◌∙◌, [], ◌∷◌}
 use Rattle.std.specs.Str.{chars}
-use Rattle.std.proofs.lemmas.Result.{on_ok_weaker, on_err_weaker}
+use Rattle.std.proofs.lemmas.Result.{on_ok_weaker}
 use Rattle.plain_run.proofs.Prints.{front_none, line_whole, line_front}
 use Rattle.plain_run.proofs.tokens.put_line.Goals as goal
 
@@ -14,4 +14,4 @@ pub returns-clause-whole : goal.returns-clause-whole
 returns-clause-whole g c = on_ok_weaker c.put_all.result (line_whole c.args.number (chars c.args.line.now) c.in-Ok.found.tokens c.in-Ok.found.fault c.as_bytes.result.now _ _ c.in-Ok.ensures (c.as_bytes.ensures.value ∙ c.in-Ok-print_tokens.ensures)) c.put_all.ensures.bytes
 
 pub returns-clause-front : goal.returns-clause-front
-returns-clause-front g c = on_err_weaker c.put_all.result (line_front c.args.number (chars c.args.line.now) c.in-Ok.found.tokens c.in-Ok.found.fault c.as_bytes.result.now _ _ c.in-Ok.ensures (c.as_bytes.ensures.value ∙ c.in-Ok-print_tokens.ensures)) c.put_all.ensures.front
+returns-clause-front g c = line_front c.put_all.result c.args.number (chars c.args.line.now) c.in-Ok.found.tokens c.in-Ok.found.fault c.as_bytes.result.now _ _ c.in-Ok.ensures (c.as_bytes.ensures.value ∙ c.in-Ok-print_tokens.ensures) c.put_all.ensures.front

@@ -1,7 +1,9 @@
 use Rattle.std.proofs.Common.{◌∙◌}
 use Rattle.std.specs.Str.{chars}
 use Rattle.std.proofs.lemmas.Result.{err_from_is_err_and}
-use Rattle.std.proofs.Common.{refl}
+use Rattle.std.proofs.Common.{refl, map, sym, ap, subst}
+use Rattle.std.specs.Prelude.{Err, IfErr}
+use Rattle.plain_run.specs.Puts.{PutsFrontOf}
 use Rattle.plain_run.proofs.Prints.{puts_none, lines_more, lines_front}
 use Rattle.plain_run.proofs.tokens.put_lines.Goals as goal
 
@@ -14,7 +16,7 @@ loop-i-preserved g c = record {
 pub returns-in_err-put_line-clause-front : goal.returns-in_err-put_line-clause-front
 returns-in_err-put_line-clause-front g c =
     let p = err_from_is_err_and c.from_residual.result c.from_residual.ensures.1 in
-    rw p.1 (lines_front (λ line. chars line.now) c.args.lines.now c.loop-i.i _ (g.O.Sink.written c.args.output.now) (g.O.Sink.written c.loop-i.output) (g.O.Sink.written c.put_line.new.output) c.loop-i-test.true c.loop-i.invariant.so_far c.in_err-put_line.ensures.front)
+    subst (λ r. IfErr r (λ fault. PutsFrontOf fault 1 (map (λ line. chars line.now) c.args.lines.now) (g.O.Sink.written c.args.output.now) (g.O.Sink.written c.put_line.new.output))) (sym (p.1 ∙ ap Err p.2)) (lines_front _ (λ line. chars line.now) c.args.lines.now c.loop-i.i _ (g.O.Sink.written c.args.output.now) (g.O.Sink.written c.loop-i.output) (g.O.Sink.written c.put_line.new.output) c.loop-i-test.true c.loop-i.invariant.so_far c.in_err-put_line.ensures.front)
 
 pub loop-i-init : goal.loop-i-init
 loop-i-init g c = record { so_far = puts_none 1 (g.O.Sink.written c.args.output.now); stood = refl }

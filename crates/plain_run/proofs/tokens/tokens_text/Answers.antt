@@ -1,6 +1,6 @@
 use Rattle.std.proofs.Common.{◌≡◌, map, sym, subst, ◌∙◌, ap, refl}
 use Rattle.std.specs.Str.{chars}
-use Rattle.std.proofs.lemmas.Result.{on_ok_weaker, on_err_weaker}
+use Rattle.std.proofs.lemmas.Result.{on_ok_weaker, IfErr-weaker}
 use Rattle.km_ports.specs.declared.status.Status.TheVariants as status
 use Rattle.km_ports.specs.Whole.{IsWhole}
 use Rattle.plain_run.specs.Printed.{AnswersTokens}
@@ -19,5 +19,5 @@ returns-in-Ok-text_lines-clause-run g c =
     c.in-Ok.ensures.end
     c.in-Ok-text_lines.ensures.text
     (on_ok_weaker c.put_lines.result (tokens_whole c.deref.result.now _ p shown) c.put_lines.ensures.whole)
-    (on_err_weaker c.put_lines.result (tokens_front c.deref.result.now _ p shown) c.put_lines.ensures.front)
+    (IfErr-weaker c.put_lines.result _ _ (λ fault. tokens_front c.deref.result.now _ p fault shown) c.put_lines.ensures.front)
     c.put_lines.ensures.cause)
