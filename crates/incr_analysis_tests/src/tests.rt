@@ -16,6 +16,7 @@ struct Uncounted;
 impl Ledger for Uncounted {}
 
 // Tells of a version once.
+#[derive(Drop)]
 struct Once {
     version: u32,
     told: bool,
