@@ -1,4 +1,4 @@
-ghost use Rattle.std.specs.Prelude.{[], ◌∷◌};
+ghost use Rattle.std.specs.Prelude.{[], ◌∷◌, if◌then◌else◌};
 
 use incr_analysis::{Analysed, Analyser, Analysis, NeverStop, Stop};
 use km_base::{Ledger, Memory, Steps};
