@@ -27,6 +27,7 @@ impl Stop for Once {
 
     ghost name = { λ s. [] };
 
+    #[tactic(auto, using(crate::proofs::Tells::told_once))]
     fn newer(&mut self) -> Option<u32> {
         if self.told {
             return None;
