@@ -6,7 +6,7 @@ ghost use Rattle.kumir_tree.specs.Pieces.{piece_of};
 ghost use Rattle.unit_grammar.specs.Grammar.{IsPrelude};
 ghost use Rattle.unit_grammar.specs.Structure.{UnitEnds, HasOther};
 ghost use Rattle.unit_grammar.specs.Progress as reading;
-ghost use Rattle.unit_grammar.specs.Views.{state_of};
+ghost use Rattle.unit_grammar.specs.Views.{state_of, some_state};
 ghost use Rattle.unit_grammar.specs.Reading.{is_use, placed_of, progress_of, structure_ending};
 
 use crate::placed::PlacedForm;
@@ -34,14 +34,36 @@ fn fault(line: u32, code: u16) -> Structure
     Structure::Fault(Fault { line, code })
 }
 
+// More blocks are open than a unit may have.
+fn too_deep(state: State, line: u32) -> Progress
+    ensures { progress_of result ≡ reading.Stopped (reading.fault_at line 202) }
+{
+    drop(state);
+    Progress::Stopped(Fault { line, code: 202 })
+}
+
 fn reached(state: State, line: u32) -> Progress
     ensures { progress_of result ≡ reading.reached (state_of state) line }
 {
     if state.is_deep() {
-        Progress::Stopped(Fault { line, code: 202 })
+        too_deep(state, line)
     } else {
         Progress::Going(state, line)
     }
+}
+
+// How far the forms are read behind one more, which is on this line.
+fn behind(state: Option<State>, line: u32) -> Progress
+    ensures { progress_of result ≡ reading.reached_some line (some_state state) }
+{
+    match state {
+        Some(state) => reached(state, line),
+        None => Progress::Stopped(Fault { line, code: 301 }),
+    }
+}
+
+fn discard(form: Form) {
+    drop(form);
 }
 
 fn advance(alloc: Global, progress: Progress, placed: PlacedForm) -> Result<Progress, AllocError>
@@ -49,12 +71,20 @@ fn advance(alloc: Global, progress: Progress, placed: PlacedForm) -> Result<Prog
 {
     let PlacedForm { line, form } = placed;
     match progress {
-        Progress::Stopped(fault) => Ok(Progress::Stopped(fault)),
-        Progress::Going(state, _) => match step(alloc, state, line, form)? {
-            Some(next) => Ok(reached(next, line)),
-            None => Ok(Progress::Stopped(Fault { line, code: 301 })),
-        },
+        Progress::Stopped(fault) => {
+            discard(form);
+            Ok(Progress::Stopped(fault))
+        }
+        Progress::Going(state, _) => Ok(behind(step(alloc, state, line, form)?, line)),
     }
+}
+
+// A unit that is not whole ends.
+fn unfinished(state: State, last: u32) -> Structure
+    ensures { structure_ending result ≡ reading.finished (reading.Stopped (reading.fault_at last 302)) }
+{
+    drop(state);
+    fault(last, 302)
 }
 
 fn end_of(state: State, last: u32) -> Structure
@@ -63,12 +93,14 @@ fn end_of(state: State, last: u32) -> Structure
     match state {
         State::Whole(tree) => Structure::Tree(tree),
         State::Empty => fault(last, 302),
-        State::AfterHeader(_) => fault(last, 302),
-        State::AfterGiven(_) => fault(last, 302),
-        State::AfterWanted(_) => fault(last, 302),
-        State::Inside(_, _) => fault(last, 302),
-        State::NeedsThen(_, _, _, _) => fault(last, 302),
-        State::NeedsCase(_, _, _) => fault(last, 302),
+        State::AfterHeader(top) => unfinished(State::AfterHeader(top), last),
+        State::AfterGiven(top) => unfinished(State::AfterGiven(top), last),
+        State::AfterWanted(top) => unfinished(State::AfterWanted(top), last),
+        State::Inside(top, body) => unfinished(State::Inside(top, body), last),
+        State::NeedsThen(top, body, line, test) => {
+            unfinished(State::NeedsThen(top, body, line, test), last)
+        }
+        State::NeedsCase(top, body, line) => unfinished(State::NeedsCase(top, body, line), last),
     }
 }
 
