@@ -184,40 +184,59 @@ pub fn tabling(alloc: Global, low: i32, high: i32, at: i32) -> Result<CodeUnits,
     )
 }
 
-/// `f(аргрез цел y)` is given 5 and adds it to itself; with `again` it calls itself until the depth ends.
-pub fn doubling(alloc: Global, again: bool) -> Result<CodeUnits, AllocError> {
-    let place = CallPlace::Slot(0);
-    let first = [
+/// 5 is stored, the second unit called with it, and what it then is printed.
+fn with_five(alloc: Global) -> Result<[(u32, Instruction); 7], AllocError> {
+    let called = call(alloc, CallPlace::Slot(0))?;
+    Ok([
         (1, number(5)),
         (1, Instruction::Store(0)),
         (2, Instruction::Load(0)),
         (2, Instruction::Step),
-        (2, call(alloc, CallPlace::Slot(0))?),
+        (2, called),
         (3, Instruction::Load(0)),
         (3, Instruction::Out),
-    ];
-    let double = [
-        (8, Instruction::Load(0)),
-        (8, Instruction::Load(0)),
-        (8, Instruction::Add),
-        (8, Instruction::Store(0)),
-    ];
-    let once_more = [
-        (7, Instruction::Load(0)),
-        (7, Instruction::Step),
-        (7, call(alloc, place)?),
-    ];
-    if again {
-        calling(alloc, first, Mode::ArgRes, 0, once_more)
-    } else {
-        calling(alloc, first, Mode::ArgRes, 0, double)
-    }
+    ])
+}
+
+/// `f(аргрез цел y)` is given 5 and adds it to itself.
+pub fn doubling(alloc: Global) -> Result<CodeUnits, AllocError> {
+    let given = with_five(alloc)?;
+    calling(
+        alloc,
+        given,
+        Mode::ArgRes,
+        0,
+        [
+            (8, Instruction::Load(0)),
+            (8, Instruction::Load(0)),
+            (8, Instruction::Add),
+            (8, Instruction::Store(0)),
+        ],
+    )
+}
+
+/// `f(аргрез цел y)` is given 5 and calls itself until the depth ends.
+pub fn calling_itself(alloc: Global) -> Result<CodeUnits, AllocError> {
+    let again = call(alloc, CallPlace::Slot(0))?;
+    let given = with_five(alloc)?;
+    calling(
+        alloc,
+        given,
+        Mode::ArgRes,
+        0,
+        [
+            (7, Instruction::Load(0)),
+            (7, Instruction::Step),
+            (7, again),
+        ],
+    )
 }
 
 /// `t[1:3]` and an index 2, fixed at the call; `f(рез цел y)` is given that element and stores 7.
 pub fn copying_to_an_element(alloc: Global) -> Result<CodeUnits, AllocError> {
     let mut at = Items::new(alloc);
     at.push(3)?;
+    let called = call(alloc, CallPlace::Element(1, at))?;
     calling(
         alloc,
         [
@@ -227,7 +246,7 @@ pub fn copying_to_an_element(alloc: Global) -> Result<CodeUnits, AllocError> {
             (2, number(2)),
             (2, Instruction::Store(3)),
             (2, Instruction::Step),
-            (2, call(alloc, CallPlace::Element(1, at))?),
+            (2, called),
             (3, number(2)),
             (3, Instruction::Elem(1, 1)),
             (3, Instruction::Out),
@@ -242,6 +261,8 @@ pub fn copying_to_an_element(alloc: Global) -> Result<CodeUnits, AllocError> {
 
 /// A table of 500,000 elements is given twice, by value or to be changed, and its first element is printed. The room is enough for two such tables at one time.
 pub fn giving_a_table(alloc: Global, mode: Mode) -> Result<CodeUnits, AllocError> {
+    let first = call(alloc, CallPlace::Table(1))?;
+    let second = call(alloc, CallPlace::Table(1))?;
     calling(
         alloc,
         [
@@ -252,9 +273,9 @@ pub fn giving_a_table(alloc: Global, mode: Mode) -> Result<CodeUnits, AllocError
             (2, number(50)),
             (2, Instruction::PutElem(1, 1)),
             (3, Instruction::Step),
-            (3, call(alloc, CallPlace::Table(1))?),
+            (3, first),
             (4, Instruction::Step),
-            (4, call(alloc, CallPlace::Table(1))?),
+            (4, second),
             (5, number(1)),
             (5, Instruction::Elem(1, 1)),
             (5, Instruction::Out),
@@ -271,12 +292,13 @@ pub fn giving_a_table(alloc: Global, mode: Mode) -> Result<CodeUnits, AllocError
 
 /// `f(арг цел y)` is given 41 and gives back one more, or nothing.
 pub fn giving_back(alloc: Global, value: bool) -> Result<CodeUnits, AllocError> {
+    let called = call(alloc, CallPlace::Value)?;
     let mut units = alone(
         alloc,
         [
             (1, number(41)),
             (1, Instruction::Step),
-            (1, call(alloc, CallPlace::Value)?),
+            (1, called),
             (1, Instruction::Out),
         ],
     )?;

@@ -1,11 +1,15 @@
+ghost use Rattle.std.specs.Prelude.{◌≤◌};
+
 use crate::codes::{
-    commanding, copying_to_an_element, counting, doubling, ending, endless, giving_a_table,
-    giving_back, operating, reading, tabling,
+    calling_itself, commanding, copying_to_an_element, counting, doubling, ending, endless,
+    giving_a_table, giving_back, operating, reading, tabling,
 };
 use crate::story::{Given, story};
 use kumir_tree::Mode;
 use kumir_values::Value;
-use stack_code::Instruction;
+use stack_code::{CodeUnits, Instruction};
+use std::alloc::{AllocError, Global};
+use std::process::Abort;
 use std::test::Fail;
 
 const USUAL: Given = Given {
@@ -14,6 +18,21 @@ const USUAL: Given = Given {
     budget: 100,
     most: 100,
 };
+
+/// A machine over this code tells what is wanted.
+fn tells(
+    rt: &impl Abort,
+    alloc: Global,
+    units: Result<CodeUnits, AllocError>,
+    given: Given,
+    wanted: &str,
+) -> Result<(), Fail>
+    requires budget { given.budget ≤ 100000000 }
+    requires most { 1 ≤ given.most }
+{
+    assert_eq!(rt; story(alloc, units?, given)?.as_str(), wanted);
+    Ok(())
+}
 
 #[test]
 fn steps_are_taken_within_the_budget(rt: HostRuntime) -> Result<(), Fail> {
@@ -49,21 +68,26 @@ fn steps_are_taken_within_the_budget(rt: HostRuntime) -> Result<(), Fail> {
             most,
             ..USUAL
         };
-        assert_eq!(rt;
-            story(alloc, counting(alloc, first, last, step)?, given)?.as_str(),
-            wanted
-        );
+        tells(
+            &rt,
+            alloc,
+            counting(alloc, first, last, step),
+            given,
+            wanted,
+        )?;
     }
     let given = Given {
         budget: 2500,
         most: 1000,
         ..USUAL
     };
-    assert_eq!(rt;
-        story(alloc, endless(alloc)?, given)?.as_str(),
-        " 1000.. 2000.. Steps 2500"
-    );
-    Ok(())
+    tells(
+        &rt,
+        alloc,
+        endless(alloc),
+        given,
+        " 1000.. 2000.. Steps 2500",
+    )
 }
 
 #[test]
@@ -88,7 +112,7 @@ fn replies_are_awaited(rt: HostRuntime) -> Result<(), Fail> {
     ];
     for (replies, wanted) in replies {
         let given = Given { replies, ..USUAL };
-        assert_eq!(rt; story(alloc, commanding(alloc)?, given)?.as_str(), wanted);
+        tells(&rt, alloc, commanding(alloc), given, wanted)?;
     }
     Ok(())
 }
@@ -110,7 +134,7 @@ fn inputs_are_taken_in_order(rt: HostRuntime) -> Result<(), Fail> {
     ];
     for (inputs, wanted) in inputs {
         let given = Given { inputs, ..USUAL };
-        assert_eq!(rt; story(alloc, reading(alloc)?, given)?.as_str(), wanted);
+        tells(&rt, alloc, reading(alloc), given, wanted)?;
     }
     Ok(())
 }
@@ -124,10 +148,7 @@ fn tables_have_bounds_and_room(rt: HostRuntime) -> Result<(), Fail> {
         (3, 1, 1, " Fault { line: 3, fault: Bounds } 0"),
         (-1, 1, -2, " Fault { line: 5, fault: Index } 0"),
     ] {
-        assert_eq!(rt;
-            story(alloc, tabling(alloc, low, high, at)?, USUAL)?.as_str(),
-            wanted
-        );
+        tells(&rt, alloc, tabling(alloc, low, high, at), USUAL, wanted)?;
     }
     Ok(())
 }
@@ -141,24 +162,24 @@ fn calls_copy_in_and_out(rt: HostRuntime) -> Result<(), Fail> {
         ..USUAL
     };
     for (units, wanted) in [
-        (doubling(alloc, false)?, "10 Done 1"),
+        (doubling(alloc), "10 Done 1"),
         (
-            doubling(alloc, true)?,
+            calling_itself(alloc),
             " Fault { line: 7, fault: Depth } 1000",
         ),
         (
-            copying_to_an_element(alloc)?,
+            copying_to_an_element(alloc),
             "7 Fault { line: 4, fault: Unset } 1",
         ),
-        (giving_a_table(alloc, Mode::Arg)?, "50 Done 2"),
-        (giving_a_table(alloc, Mode::ArgRes)?, "60 Done 2"),
-        (giving_back(alloc, true)?, "42 Done 1"),
+        (giving_a_table(alloc, Mode::Arg), "50 Done 2"),
+        (giving_a_table(alloc, Mode::ArgRes), "60 Done 2"),
+        (giving_back(alloc, true), "42 Done 1"),
         (
-            giving_back(alloc, false)?,
+            giving_back(alloc, false),
             " Fault { line: 9, fault: NoValue } 1",
         ),
     ] {
-        assert_eq!(rt; story(alloc, units, deep)?.as_str(), wanted);
+        tells(&rt, alloc, units, deep, wanted)?;
     }
     Ok(())
 }
@@ -167,31 +188,31 @@ fn calls_copy_in_and_out(rt: HostRuntime) -> Result<(), Fail> {
 fn faults_have_their_lines(rt: HostRuntime) -> Result<(), Fail> {
     let alloc = rt.alloc();
     for (units, wanted) in [
-        (operating(alloc, 7, 3, Instruction::Sub)?, "4 Done 0"),
+        (operating(alloc, 7, 3, Instruction::Sub), "4 Done 0"),
         (
-            operating(alloc, 2_147_483_647, 1, Instruction::Add)?,
+            operating(alloc, 2_147_483_647, 1, Instruction::Add),
             " Fault { line: 6, fault: Range } 0",
         ),
         (
-            operating(alloc, 1, 0, Instruction::Div)?,
+            operating(alloc, 1, 0, Instruction::Div),
             " Fault { line: 6, fault: Divisor } 0",
         ),
         (
-            operating(alloc, 2, -1, Instruction::Pow)?,
+            operating(alloc, 2, -1, Instruction::Pow),
             " Fault { line: 6, fault: Exponent } 0",
         ),
         (
-            ending(alloc, true, Instruction::Assert)?,
+            ending(alloc, true, Instruction::Assert),
             " Fault { line: 7, fault: Unset } 0",
         ),
         (
-            ending(alloc, false, Instruction::Assert)?,
+            ending(alloc, false, Instruction::Assert),
             " Assert { line: 6 } 0",
         ),
-        (ending(alloc, true, Instruction::Quit)?, " Quit 0"),
-        (ending(alloc, true, Instruction::Add)?, "not valid"),
+        (ending(alloc, true, Instruction::Quit), " Quit 0"),
+        (ending(alloc, true, Instruction::Add), "not valid"),
     ] {
-        assert_eq!(rt; story(alloc, units, USUAL)?.as_str(), wanted);
+        tells(&rt, alloc, units, USUAL, wanted)?;
     }
     Ok(())
 }

@@ -165,24 +165,48 @@ fn machine_of(alloc: Global, units: CodeUnits, given: Given) -> Result<Option<Ma
     Ok(Some(machine))
 }
 
+/// Calls the machine until it is over, or for 2,000 calls.
+fn go_on(
+    alloc: Global,
+    machine: &mut Machine,
+    given: Given,
+    told: &mut String,
+) -> Result<(), Memory>
+    requires most { 1 ≤ given.most }
+{
+    let mut replied: usize = 0;
+    for _ in 0..2000 {
+        let best = given.replies.get(replied).copied();
+        match one_call(alloc, machine, best, told, given.most)? {
+            Turn::On => {}
+            Turn::Replied => replied = replied.saturating_add(1),
+            Turn::Over => return Ok(()),
+        }
+    }
+    Ok(())
+}
+
+fn not_valid(alloc: Global) -> Result<String, Memory> {
+    let mut told = String::new(alloc);
+    told.push_str("not valid")?;
+    Ok(told)
+}
+
+fn all_of(alloc: Global, mut machine: Machine, given: Given) -> Result<String, Memory>
+    requires most { 1 ≤ given.most }
+{
+    let mut told = String::new(alloc);
+    go_on(alloc, &mut machine, given, &mut told)?;
+    Ok(told)
+}
+
 /// The outputs, the commands, the steps at each pause, and the end with its steps. `?` where the reply to a command is missing, `!` where a machine does not await the reply when it is asked again.
 pub fn story(alloc: Global, units: CodeUnits, given: Given) -> Result<String, Memory>
     requires budget { given.budget ≤ 100000000 }
     requires most { 1 ≤ given.most }
 {
-    let mut told = String::new(alloc);
-    let Some(mut machine) = machine_of(alloc, units, given)? else {
-        told.push_str("not valid")?;
-        return Ok(told);
-    };
-    let mut replied: usize = 0;
-    for _ in 0..2000 {
-        let best = given.replies.get(replied).copied();
-        match one_call(alloc, &mut machine, best, &mut told, given.most)? {
-            Turn::On => {}
-            Turn::Replied => replied = replied.saturating_add(1),
-            Turn::Over => return Ok(told),
-        }
+    match machine_of(alloc, units, given)? {
+        Some(machine) => all_of(alloc, machine, given),
+        None => not_valid(alloc),
     }
-    Ok(told)
 }

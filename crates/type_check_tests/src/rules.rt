@@ -5,7 +5,7 @@ ghost use Rattle.kumir_tree.specs.Blocks.{block_of};
 ghost use Rattle.kumir_tree.specs.Units.{units_of};
 ghost use Rattle.kumir_tree.specs.Sound.{IsSound};
 
-use km_base::{Ledger, Performers, Steps};
+use km_base::{Ledger, Memory, Performers, Steps};
 use kumir_tree::{
     Block, BoundExpr, BoundExprs, Declared, Expr, Exprs, Header, Item, Kind, Mode, Name, Names, Op,
     Outcome, Param, PlacedUnit, Statement, Target, UnitRead, UnitTree, Units, What,
@@ -99,16 +99,20 @@ fn headers(alloc: Global) -> Result<Headers, Fail> {
     Ok(headers)
 }
 
-// An algorithm `u(арг цел x, рез лог b, аргрез цел таб a[1:2])` with this body.
-fn unit(alloc: Global, gives: Option<Kind>, body: Block) -> Result<UnitTree, AllocError> {
+// The header `u(арг цел x, рез лог b, аргрез цел таб a[1:2])`.
+fn header_of_u(alloc: Global, gives: Option<Kind>) -> Result<Header, AllocError> {
     let first = param(alloc, Mode::Arg, Kind::Whole, "x", false)?;
     let mut header = header(alloc, "u", gives, first)?;
-    header
-        .params
-        .push(param(alloc, Mode::Res, Kind::Truth, "b", false)?)?;
-    header
-        .params
-        .push(param(alloc, Mode::ArgRes, Kind::Whole, "a", true)?)?;
+    let second = param(alloc, Mode::Res, Kind::Truth, "b", false)?;
+    header.params.push(second)?;
+    let third = param(alloc, Mode::ArgRes, Kind::Whole, "a", true)?;
+    header.params.push(third)?;
+    Ok(header)
+}
+
+// The algorithm `u` with this body.
+fn unit(alloc: Global, gives: Option<Kind>, body: Block) -> Result<UnitTree, AllocError> {
+    let header = header_of_u(alloc, gives)?;
     Ok(UnitTree {
         header,
         given: None,
@@ -118,10 +122,15 @@ fn unit(alloc: Global, gives: Option<Kind>, body: Block) -> Result<UnitTree, All
     })
 }
 
-fn checked(alloc: Global, gives: Option<Kind>, body: Block) -> Result<UnitFaults, Fail> {
+fn found_in(alloc: Global, tree: &UnitTree) -> Result<UnitFaults, Fail> {
     let mut steps = Steps::<Checks>::new();
     let headers = headers(alloc)?;
-    Ok(check_unit(alloc, &unit(alloc, gives, body)?, &headers, &mut steps)?)
+    Ok(check_unit(alloc, tree, &headers, &mut steps)?)
+}
+
+fn checked(alloc: Global, gives: Option<Kind>, body: Block) -> Result<UnitFaults, Fail> {
+    let tree = unit(alloc, gives, body)?;
+    found_in(alloc, &tree)
 }
 
 // The code of the fault of this one statement, 0 where it has none.
@@ -135,22 +144,30 @@ fn code_of(alloc: Global, gives: Option<Kind>, what: What) -> Result<u16, Fail> 
     }
 }
 
+fn element(alloc: Global, a: &str, at: Exprs) -> Result<Expr, AllocError> {
+    Ok(Expr::Element(name_of(alloc, a)?, at))
+}
+
+fn call(alloc: Global, f: &str, arguments: Exprs) -> Result<Expr, AllocError> {
+    Ok(Expr::Call(name_of(alloc, f)?, arguments))
+}
+
 // Expressions that tests name by a word.
 fn sample(alloc: Global, text: &str) -> Result<Expr, AllocError> {
     match text {
         "1" => Ok(Expr::Number(1)),
         "да" => Ok(Expr::Truth(true)),
         "знач" => Ok(Expr::Result),
-        "a[1]" => Ok(Expr::Element(name_of(alloc, "a")?, one(alloc, Expr::Number(1))?)),
-        "a[да]" => Ok(Expr::Element(name_of(alloc, "a")?, one(alloc, Expr::Truth(true))?)),
-        "a[1,2]" => Ok(Expr::Element(name_of(alloc, "a")?, two(alloc)?)),
-        "x[1]" => Ok(Expr::Element(name_of(alloc, "x")?, one(alloc, Expr::Number(1))?)),
-        "f(1)" => Ok(Expr::Call(name_of(alloc, "f")?, one(alloc, Expr::Number(1))?)),
-        "f(1,2)" => Ok(Expr::Call(name_of(alloc, "f")?, two(alloc)?)),
-        "div(1,2)" => Ok(Expr::Call(name_of(alloc, "div")?, two(alloc)?)),
-        "iabs(1,2)" => Ok(Expr::Call(name_of(alloc, "iabs")?, two(alloc)?)),
-        "x()" => Ok(Expr::Call(name_of(alloc, "x")?, Items::new(alloc))),
-        "in(да)" => Ok(Expr::Call(name_of(alloc, "in")?, one(alloc, Expr::Truth(true))?)),
+        "a[1]" => element(alloc, "a", one(alloc, Expr::Number(1))?),
+        "a[да]" => element(alloc, "a", one(alloc, Expr::Truth(true))?),
+        "a[1,2]" => element(alloc, "a", two(alloc)?),
+        "x[1]" => element(alloc, "x", one(alloc, Expr::Number(1))?),
+        "f(1)" => call(alloc, "f", one(alloc, Expr::Number(1))?),
+        "f(1,2)" => call(alloc, "f", two(alloc)?),
+        "div(1,2)" => call(alloc, "div", two(alloc)?),
+        "iabs(1,2)" => call(alloc, "iabs", two(alloc)?),
+        "x()" => call(alloc, "x", Items::new(alloc)),
+        "in(да)" => call(alloc, "in", one(alloc, Expr::Truth(true))?),
         "-да" => Expr::minus_of(alloc, Expr::Truth(true)),
         "не 1" => Expr::not_of(alloc, Expr::Number(1)),
         _ => Ok(Expr::Named(name_of(alloc, text)?)),
@@ -215,14 +232,19 @@ const OPERATORS: [(Op, u16, u16, u16); 12] = [
     (Op::Power, 0, 403, 403),
 ];
 
+fn operator_code(alloc: Global, op: Op, a: &str, b: &str) -> Result<u16, Fail> {
+    let left = sample(alloc, a)?;
+    let right = sample(alloc, b)?;
+    let e = Expr::binary_of(alloc, op, left, right)?;
+    code_of(alloc, None, printed(alloc, e)?)
+}
+
 #[test]
 fn operators_stand_over_kinds(rt: HostRuntime) -> Result<(), Fail> {
     let alloc = rt.alloc();
     for (op, whole, truth, mixed) in OPERATORS {
         for (a, b, code) in [("x", "1", whole), ("b", "да", truth), ("x", "b", mixed)] {
-            let left = sample(alloc, a)?;
-            let e = Expr::binary_of(alloc, op, left, sample(alloc, b)?)?;
-            assert_eq!(rt; code_of(alloc, None, printed(alloc, e)?)?, code, "{a} {b}");
+            assert_eq!(rt; operator_code(alloc, op, a, b)?, code, "{a} {b}");
         }
     }
     Ok(())
@@ -251,20 +273,24 @@ const CALLS: [(&str, &str, u16); 19] = [
     ("z", "1", 402),
 ];
 
+fn invoked(alloc: Global, f: &str, arguments: Exprs) -> Result<What, AllocError> {
+    Ok(What::Call(name_of(alloc, f)?, arguments))
+}
+
+fn argument_code(alloc: Global, f: &str, argument: &str) -> Result<u16, Fail> {
+    let arguments = one(alloc, sample(alloc, argument)?)?;
+    let what = invoked(alloc, f, arguments)?;
+    code_of(alloc, Some(Kind::Whole), what)
+}
+
 #[test]
 fn calls_fit(rt: HostRuntime) -> Result<(), Fail> {
     let alloc = rt.alloc();
     for (f, argument, code) in CALLS {
-        let arguments = one(alloc, sample(alloc, argument)?)?;
-        let what = What::Call(name_of(alloc, f)?, arguments);
-        assert_eq!(rt;
-            code_of(alloc, Some(Kind::Whole), what)?,
-            code,
-            "{f} {argument}"
-        );
+        assert_eq!(rt; argument_code(alloc, f, argument)?, code, "{f} {argument}");
     }
     for (f, code) in [("вниз", 0), ("клетка чистая", 403), ("in", 403)] {
-        let what = What::Call(name_of(alloc, f)?, Items::new(alloc));
+        let what = invoked(alloc, f, Items::new(alloc))?;
         assert_eq!(rt; code_of(alloc, None, what)?, code, "{f}");
     }
     Ok(())
@@ -280,15 +306,25 @@ const LOOPS: [(&str, &str, u16); 6] = [
     ("z", "да", 402),
 ];
 
+fn loop_code(alloc: Global, x: &str, step: &str) -> Result<u16, Fail> {
+    let x = name_of(alloc, x)?;
+    let step = Some(sample(alloc, step)?);
+    let body = Items::new(alloc);
+    let what = What::Count(x, Expr::Number(1), Expr::Number(2), step, body);
+    code_of(alloc, None, what)
+}
+
+fn assignment_code(alloc: Global, x: &str, e: &str) -> Result<u16, Fail> {
+    let target = Target::Scalar(name_of(alloc, x)?);
+    let what = What::Assign(target, sample(alloc, e)?);
+    code_of(alloc, None, what)
+}
+
 #[test]
 fn loops_and_assignments_fit(rt: HostRuntime) -> Result<(), Fail> {
     let alloc = rt.alloc();
     for (x, step, code) in LOOPS {
-        let step = Some(sample(alloc, step)?);
-        let body = Items::new(alloc);
-        let x = name_of(alloc, x)?;
-        let what = What::Count(x, Expr::Number(1), Expr::Number(2), step, body);
-        assert_eq!(rt; code_of(alloc, None, what)?, code);
+        assert_eq!(rt; loop_code(alloc, x, step)?, code, "{x} {step}");
     }
     for (x, e, code) in [
         ("x", "1", 0),
@@ -296,9 +332,7 @@ fn loops_and_assignments_fit(rt: HostRuntime) -> Result<(), Fail> {
         ("f", "1", 403),
         ("a", "1", 403),
     ] {
-        let target = Target::Scalar(name_of(alloc, x)?);
-        let what = What::Assign(target, sample(alloc, e)?);
-        assert_eq!(rt; code_of(alloc, None, what)?, code, "{x} {e}");
+        assert_eq!(rt; assignment_code(alloc, x, e)?, code, "{x} {e}");
     }
     for (gives, code) in [
         (None, 403),
@@ -318,27 +352,42 @@ fn declared(alloc: Global, first: &str, second: &str) -> Result<What, AllocError
     Ok(What::Declare(Declared::Scalars(Kind::Truth, names)))
 }
 
+// A sample that is printed, or two variables of `лог` that are declared.
+const PIECES: [(&str, Option<&str>); 8] = [
+    ("f(1)", None),
+    ("f", Some("x")),
+    ("q", Some("q")),
+    ("f(1)", None),
+    ("q", None),
+    ("z", None),
+    ("f(1,2)", None),
+    ("z", None),
+];
+
+fn piece(alloc: Global, first: &str, second: Option<&str>) -> Result<What, AllocError> {
+    match second {
+        Some(second) => declared(alloc, first, second),
+        None => printed(alloc, sample(alloc, first)?),
+    }
+}
+
+fn pieces(alloc: Global) -> Result<Block, AllocError> {
+    let mut body = Items::new(alloc);
+    let mut line = 0_u32;
+    for (first, second) in PIECES {
+        let what = piece(alloc, first, second)?;
+        body.push(Statement { line, what })?;
+        line = line.saturating_add(1);
+    }
+    Ok(body)
+}
+
 // `f(1)` is a call before the declaration of `f` and a variable with parentheses behind it; `q` is declared though its
 // piece has a fault.
 #[test]
 fn names_are_local_from_their_declaration_on(rt: HostRuntime) -> Result<(), Fail> {
     let alloc = rt.alloc();
-    let mut body = Items::new(alloc);
-    let mut line = 0_u32;
-    for what in [
-        printed(alloc, sample(alloc, "f(1)")?)?,
-        declared(alloc, "f", "x")?,
-        declared(alloc, "q", "q")?,
-        printed(alloc, sample(alloc, "f(1)")?)?,
-        printed(alloc, sample(alloc, "q")?)?,
-        printed(alloc, sample(alloc, "z")?)?,
-        printed(alloc, sample(alloc, "f(1,2)")?)?,
-        printed(alloc, sample(alloc, "z")?)?,
-    ] {
-        body.push(Statement { line, what })?;
-        line = line.saturating_add(1);
-    }
-    let unit = checked(alloc, None, body)?;
+    let unit = checked(alloc, None, pieces(alloc)?)?;
     let wanted = [(1, 401), (2, 401), (3, 403), (5, 402), (6, 403), (7, 402)];
     assert_eq!(rt; unit.faults.len(), 6);
     for (fault, (line, code)) in unit.faults.as_slice().iter().zip(wanted) {
@@ -402,12 +451,12 @@ fn calling(alloc: Global, f: Name) -> Result<Block, AllocError>
 fn program(alloc: Global, f: Name) -> Result<Units, AllocError>
     ensures { IfOk result (λ units. IsSound (units_of units)) }
 {
-    let mut units = prelude(alloc)?;
+    let body = calling(alloc, f)?;
     let tree = UnitTree {
         header: nameless(alloc),
         given: None,
         wanted: None,
-        body: calling(alloc, f)?,
+        body,
         close: 2,
     };
     let read = UnitRead {
@@ -419,35 +468,66 @@ fn program(alloc: Global, f: Name) -> Result<Units, AllocError>
         unknown: Items::new(alloc),
         outcome: Outcome::Tree(tree),
     };
-    units.push(PlacedUnit {
-        first: 3,
-        read: Arc::new(alloc, read)?,
-    })?;
+    let read = Arc::new(alloc, read)?;
+    let mut units = prelude(alloc)?;
+    units.push(PlacedUnit { first: 3, read })?;
     Ok(units)
+}
+
+// How many marks the program's margin has, and the first of them.
+fn marks_of(alloc: Global, units: &Units) -> Result<(usize, Option<Mark>), Memory>
+    requires { IsSound (units_of units.now) }
+{
+    let mut steps = Steps::<Checks>::new();
+    let margin = margin_of(alloc, units, &mut steps)?;
+    Ok((margin.marks().len(), margin.marks().first().copied()))
+}
+
+// Whether the program is refused for its faults.
+fn has_faults(alloc: Global, units: &Units) -> bool
+    requires { IsSound (units_of units.now) }
+{
+    matches!(clean_of(alloc, units), Err(CleanRefusal::Faults(_)))
 }
 
 #[test]
 fn a_fault_has_a_mark_in_the_margin(rt: HostRuntime) -> Result<(), Fail> {
     let alloc = rt.alloc();
     let units = program(alloc, name_of(alloc, "z")?)?;
-    let mut steps = Steps::<Checks>::new();
-    let margin = margin_of(alloc, &units, &mut steps)?;
-    let mark = Mark { line: 4, code: 402 };
-    assert_eq!(rt; margin.marks().len(), 1);
-    assert_eq!(rt; margin.marks().first().copied(), Some(mark));
-    assert!(rt; matches!(clean_of(alloc, &units), Err(CleanRefusal::Faults(_))));
+    let (count, first) = marks_of(alloc, &units)?;
+    assert_eq!(rt; count, 1);
+    assert_eq!(rt; first, Some(Mark { line: 4, code: 402 }));
+    assert!(rt; has_faults(alloc, &units));
     Ok(())
+}
+
+// How many units the program has, whether it has a main algorithm, and whether it knows the name.
+fn clean_parts(
+    alloc: Global,
+    units: &Units,
+    name: &Name,
+) -> Result<(usize, bool, bool), CleanRefusal>
+    requires { IsSound (units_of units.now) }
+{
+    let clean = clean_of(alloc, units)?;
+    let has_main = clean.main().is_some();
+    Ok((
+        clean.units().len(),
+        has_main,
+        clean.headers().find(name).is_some(),
+    ))
 }
 
 #[test]
 fn a_program_without_a_fault_is_clean(rt: HostRuntime) -> Result<(), Fail> {
     let alloc = rt.alloc();
+    let name = name_of(alloc, "вниз")?;
     let units = program(alloc, name_of(alloc, "вниз")?)?;
-    let mut steps = Steps::<Checks>::new();
-    assert!(rt; margin_of(alloc, &units, &mut steps)?.marks().is_empty());
-    let clean = clean_of(alloc, &units)?;
-    assert_eq!(rt; clean.units().len(), 2);
-    assert!(rt; clean.main().is_some());
-    assert!(rt; clean.headers().find(&name_of(alloc, "вниз")?).is_some());
+    let (marks, _) = marks_of(alloc, &units)?;
+    assert_eq!(rt; marks, 0);
+    let (count, has_main, knows) = clean_parts(alloc, &units, &name)?;
+    assert_eq!(rt; count, 2);
+    assert!(rt; has_main);
+    assert!(rt; knows);
     Ok(())
 }
