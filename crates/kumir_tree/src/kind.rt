@@ -7,6 +7,21 @@ pub enum Kind {
     Truth,
 }
 
+impl Kind {
+    ghost use Rattle.std.specs.Prelude.{◌≡◌};
+    ghost use Rattle.kumir_tree.specs.Kinds.{same_kind};
+
+    /// Whether it is this kind.
+    pub fn is(self, other: Kind) -> bool
+        ensures { result ≡ same_kind self other }
+    {
+        match (self, other) {
+            (Kind::Whole, Kind::Whole) | (Kind::Truth, Kind::Truth) => true,
+            (Kind::Whole, Kind::Truth) | (Kind::Truth, Kind::Whole) => false,
+        }
+    }
+}
+
 /// How a parameter is passed.
 #[derive(Clone, Copy, Debug, PartialEq, Eq)]
 pub enum Mode {

@@ -2,6 +2,7 @@
 #![tactic(auto)]
 
 mod expr;
+pub mod fault_codes;
 mod form;
 mod header;
 mod kind;

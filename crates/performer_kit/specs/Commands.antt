@@ -1,6 +1,6 @@
 -- The command table of the language: the names of performers and commands, as lists of characters,
 -- and how commands print. docs/LANGUAGE.md, "Performers".
-use Rattle.std.specs.Prelude.{ℕ, ℤ, List, [], ◌∷◌, ◌++◌, Option, map, codes, ◌==◌, if◌then◌else◌}
+use Rattle.std.specs.Prelude.{ℕ, ℤ, Bool, true, false, List, [], ◌∷◌, ◌++◌, Option, map, codes, ◌==◌, if◌then◌else◌}
 use Rattle.std.specs.List.{flat_map}
 use Rattle.std.specs.Fmt.{signed_decimal}
 use Rattle.km_base.specs.declared.performers.Performer.{Performer}
@@ -62,6 +62,31 @@ robot_command_named text = first_named robot_name robot_commands text
 
 unfoldable pub pen_shape_named : List ℕ → Option PenShape
 pen_shape_named text = first_named pen_name pen_shapes text
+
+-- whether a command of the Robot is a test
+abbrev pub is_test : RobotCommand → Bool
+is_test Up = false
+is_test Down = false
+is_test Left = false
+is_test Right = false
+is_test Paint = false
+is_test AboveFree = true
+is_test BelowFree = true
+is_test LeftFree = true
+is_test RightFree = true
+is_test AboveWall = true
+is_test BelowWall = true
+is_test LeftWall = true
+is_test RightWall = true
+is_test CellPainted = true
+is_test CellClean = true
+
+-- how many numbers a command of the Draughtsman takes
+abbrev pub pen_arity : PenShape → ℕ
+pen_arity shape.Raise = 0
+pen_arity shape.Lower = 0
+pen_arity shape.To = 2
+pen_arity shape.By = 2
 
 -- a command of the Draughtsman without its numbers, and its numbers
 unfoldable pub shape_of : PenCommand → PenShape

@@ -35,6 +35,34 @@ pub enum RobotCommand {
     CellClean,
 }
 
+impl RobotCommand {
+    ghost use Rattle.std.specs.Prelude.{◌≡◌};
+    ghost use Rattle.performer_kit.specs.Commands.{is_test};
+
+    /// Whether it is a test, which is answered by yes or no.
+    pub fn is_test(self) -> bool
+        ensures { result ≡ is_test self }
+    {
+        match self {
+            RobotCommand::Up
+            | RobotCommand::Down
+            | RobotCommand::Left
+            | RobotCommand::Right
+            | RobotCommand::Paint => false,
+            RobotCommand::AboveFree
+            | RobotCommand::BelowFree
+            | RobotCommand::LeftFree
+            | RobotCommand::RightFree
+            | RobotCommand::AboveWall
+            | RobotCommand::BelowWall
+            | RobotCommand::LeftWall
+            | RobotCommand::RightWall
+            | RobotCommand::CellPainted
+            | RobotCommand::CellClean => true,
+        }
+    }
+}
+
 /// A command of the Draughtsman without its numbers.
 #[derive(Clone, Copy, Debug, PartialEq, Eq)]
 pub enum PenShape {
@@ -46,6 +74,21 @@ pub enum PenShape {
     To,
     /// `сместиться на вектор`, with two numbers
     By,
+}
+
+impl PenShape {
+    ghost use Rattle.std.specs.Prelude.{◌≡◌};
+    ghost use Rattle.performer_kit.specs.Commands.{pen_arity};
+
+    /// How many numbers it takes.
+    pub fn arity(self) -> usize
+        ensures { result ≡ pen_arity self }
+    {
+        match self {
+            PenShape::Raise | PenShape::Lower => 0,
+            PenShape::To | PenShape::By => 2,
+        }
+    }
 }
 
 /// A command of the Draughtsman.
