@@ -6,11 +6,11 @@ use Rattle.kumir_values.specs.declared.value.Value.{Value}
 use Rattle.kumir_values.specs.declared.run_end.RunFault.{RunFault}
 use Rattle.kumir_values.specs.declared.run_end.RunFault.TheVariants.{Index}
 use Rattle.kumir_values.specs.Bounds.{inside}
-use Rattle.kumir_values.specs.Runs.{Rest, given, tick, Fault}
-use Rattle.kumir_values.specs.Operations.{number_of}
-use Rattle.kumir_values.specs.Store.{Variable, Local, Store, Cell, Empty, Has, Holds, Spot, AtElement, read, checked, settled}
-use Rattle.kumir_values.specs.Callees.{Placed, Program, Called, callee}
-use Rattle.kumir_values.specs.Meaning.{Allowed, Enter, Then, ThenValue, ThenValues, Passed, numbers_of}
+use Rattle.kumir_meaning.specs.Runs.{Rest, given, tick, Fault}
+use Rattle.kumir_meaning.specs.Operations.{number_of}
+use Rattle.kumir_meaning.specs.Store.{Variable, Local, Store, Cell, Empty, Has, Holds, Spot, AtElement, read, checked, settled}
+use Rattle.kumir_meaning.specs.Callees.{Placed, Program, Called, callee}
+use Rattle.kumir_meaning.specs.Meaning.{Allowed, Enter, Then, ThenValue, ThenValues, Passed, numbers_of}
 use Rattle.stack_code.specs.declared.instruction.CallPlace.{CallPlace}
 use Rattle.stack_code.specs.declared.instruction.Instruction.TheVariants as instruction
 use Rattle.stack_code.specs.declared.unit.CodeUnit.{CodeUnit}

@@ -5,9 +5,9 @@ use Rattle.kumir_tree.specs.Part.{Head}
 use Rattle.performer_kit.specs.declared.commands.RobotCommand.{RobotCommand}
 use Rattle.performer_kit.specs.declared.commands.PenShape.{PenShape}
 use Rattle.performer_kit.specs.Commands.{robot_command_named, pen_shape_named}
-use Rattle.kumir_values.specs.Operations as run
-use Rattle.kumir_values.specs.Callees as run_names
-use Rattle.kumir_values.specs.Callees.{Placed, Program, Callee, Called, BuiltInCall, RobotCall, PenCall, Unknown, or_else, if_known}
+use Rattle.kumir_meaning.specs.Operations as run
+use Rattle.kumir_meaning.specs.Callees as run_names
+use Rattle.kumir_meaning.specs.Callees.{Placed, Program, Callee, Called, BuiltInCall, RobotCall, PenCall, Unknown, or_else, if_known}
 use Rattle.type_rules.specs.declared.callee.BuiltIn.{BuiltIn}
 use Rattle.type_rules.specs.declared.callee.BuiltIn.TheVariants.{Div, Mod, Iabs, Imin, Imax}
 use Rattle.type_rules.specs.Callees as rules

@@ -1,7 +1,7 @@
 -- The slots of a unit hold what its variables hold.
 use Rattle.std.proofs.Common.{◌≡◌, ◌≢◌, ℕ, ◌+◌, ◌<◌, ◌≤◌, Bool, true, false, cond, List, length, refl, ap, ◌∙◌, arith, nat_eq}
 use Rattle.std.proofs.lemmas.Bool.Decides.{nat_tests}
-use Rattle.kumir_values.specs.Store.{Variable, same_variable, Cell, Store, with_cell}
+use Rattle.kumir_meaning.specs.Store.{Variable, same_variable, Cell, Store, with_cell}
 use Rattle.stack_code.specs.CodeState.{Slot, Slots, with_slot, cell_in}
 use Rattle.kumir_compiler.specs.Code.{position}
 use Rattle.kumir_compiler.proofs.Slotted.{is_among}

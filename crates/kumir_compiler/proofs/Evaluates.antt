@@ -7,10 +7,10 @@ use Rattle.performer_kit.specs.declared.commands.Command.TheVariants.{Robot}
 use Rattle.performer_kit.specs.declared.commands.RobotCommand.{RobotCommand}
 use Rattle.kumir_values.specs.declared.value.Value.{Value}
 use Rattle.kumir_values.specs.declared.value.Value.TheVariants.{Truth}
-use Rattle.kumir_values.specs.Runs.{Rest, given, tick, asks, Wall}
-use Rattle.kumir_values.specs.Operations.{BuiltIn, combined, decided, is_yes, negated, applied}
-use Rattle.kumir_values.specs.Store.{Variable, Local, Store, read, element}
-use Rattle.kumir_values.specs.Meaning.{Allowed, Then, ThenValue, ThenValues, unless_decided, reply_value, is_wall, numbers_of}
+use Rattle.kumir_meaning.specs.Runs.{Rest, given, tick, asks, Wall}
+use Rattle.kumir_meaning.specs.Operations.{BuiltIn, combined, decided, is_yes, negated, applied}
+use Rattle.kumir_meaning.specs.Store.{Variable, Local, Store, read, element}
+use Rattle.kumir_meaning.specs.Meaning.{Allowed, Then, ThenValue, ThenValues, unless_decided, reply_value, is_wall, numbers_of}
 use Rattle.stack_code.specs.declared.instruction.CodeLine.{CodeLine}
 use Rattle.stack_code.specs.declared.instruction.CommandShape.TheVariants as command
 use Rattle.stack_code.specs.declared.instruction.Instruction.{Instruction}

@@ -10,11 +10,11 @@ use Rattle.kumir_tree.specs.Tree.{Tree, Number, Truth as TruthOf, Answer, Named,
 use Rattle.kumir_tree.specs.Part.{Limits, Formal}
 use Rattle.kumir_values.specs.declared.value.Value.{Value}
 use Rattle.kumir_values.specs.declared.value.Value.TheVariants.{Whole, Truth}
-use Rattle.kumir_values.specs.Runs.{Rest, given}
-use Rattle.kumir_values.specs.Operations.{BuiltIn, Div, Mod, Abs, Min, Max}
-use Rattle.kumir_values.specs.Store.{Variable, TheAnswer, Local, Store, Spot, AtVariable, AtElement, read, element, read_at}
-use Rattle.kumir_values.specs.Callees.{Placed, Program, Callee, Called, BuiltInCall, RobotCall, PenCall, Unknown, callee, Locals, local_kind}
-use Rattle.kumir_values.specs.Meaning.{Allowed, Enter, Here, Then, ThenValue, Passed, ByValue, ByPlace, ByTable, calls, named, passes, name_of, steps_in, eval, values, args, fixes}
+use Rattle.kumir_meaning.specs.Runs.{Rest, given}
+use Rattle.kumir_meaning.specs.Operations.{BuiltIn, Div, Mod, Abs, Min, Max}
+use Rattle.kumir_meaning.specs.Store.{Variable, TheAnswer, Local, Store, Spot, AtVariable, AtElement, read, element, read_at}
+use Rattle.kumir_meaning.specs.Callees.{Placed, Program, Callee, Called, BuiltInCall, RobotCall, PenCall, Unknown, callee, Locals, local_kind}
+use Rattle.kumir_meaning.specs.Meaning.{Allowed, Enter, Here, Then, ThenValue, Passed, ByValue, ByPlace, ByTable, calls, named, passes, name_of, steps_in, eval, values, args, fixes}
 use Rattle.stack_code.specs.declared.instruction.CodeLine.{CodeLine}
 use Rattle.stack_code.specs.declared.instruction.Instruction.TheVariants as instruction
 use Rattle.stack_code.specs.declared.unit.CodeUnit.{CodeUnit}

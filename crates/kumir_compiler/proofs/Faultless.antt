@@ -11,8 +11,8 @@ use Rattle.kumir_tree.specs.Program as tree
 use Rattle.kumir_tree.specs.Program.{Stands, Declare, Assign, Invoke, Times, While, Count, Forever, Until, Choose, Select, Assert, Input, Output, Leave, Quit, Block, done, ◌next◌, Arms, no_arms, arm}
 use Rattle.kumir_tree.specs.Unit.{Algorithm, Ending, Grown, Prelude, Faulty, Known}
 use Rattle.kumir_tree.specs.Sound.{IsInputTarget, ActHolds, BlockHolds, ArmsHold, EndingHolds, HasDimensions, IsSound, IsUnitRead, IsPlaced, EndsUnit}
-use Rattle.kumir_values.specs.Callees as run_names
-use Rattle.kumir_values.specs.Callees.{Placed, Program, grown, program_of, callee, Locals, local_kind, params_of, act_names, stmt_names, block_names, arm_names}
+use Rattle.kumir_meaning.specs.Callees as run_names
+use Rattle.kumir_meaning.specs.Callees.{Placed, Program, grown, program_of, callee, Locals, local_kind, params_of, act_names, stmt_names, block_names, arm_names}
 use Rattle.type_rules.specs.Callees as rules
 use Rattle.type_rules.specs.Callees.{Callees, Called}
 use Rattle.type_rules.specs.Counted.{no_heads, with_head, head_fault, without_fault, counted_with, fault_on, fault_at, all_counted, all_faults, headers_in, header_faults}

@@ -6,9 +6,9 @@ use Rattle.kumir_tree.specs.declared.kind.Mode.TheVariants.{Arg, Res, ArgRes}
 use Rattle.kumir_tree.specs.Tree.{Trees, no_trees, ◌then◌}
 use Rattle.kumir_tree.specs.Part.{Formal}
 use Rattle.kumir_values.specs.declared.value.Value.{Value}
-use Rattle.kumir_values.specs.Operations.{number_of}
-use Rattle.kumir_values.specs.Store.{Variable, Local, Has, Spot, AtVariable, AtElement}
-use Rattle.kumir_values.specs.Meaning.{Passed, ByValue, ByPlace, ByTable, numbers_of}
+use Rattle.kumir_meaning.specs.Operations.{number_of}
+use Rattle.kumir_meaning.specs.Store.{Variable, Local, Has, Spot, AtVariable, AtElement}
+use Rattle.kumir_meaning.specs.Meaning.{Passed, ByValue, ByPlace, ByTable, numbers_of}
 use Rattle.stack_code.specs.declared.instruction.CallPlace.{CallPlace}
 use Rattle.stack_code.specs.declared.instruction.CallPlace.TheVariants as place
 use Rattle.stack_code.specs.CodeState.{Slots, Plain}

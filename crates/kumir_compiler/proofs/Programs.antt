@@ -13,13 +13,13 @@ use Rattle.kumir_values.specs.declared.value.Value.{Value}
 use Rattle.kumir_values.specs.declared.value.Value.TheVariants.{Truth}
 use Rattle.kumir_values.specs.declared.run_end.RunFault.{RunFault}
 use Rattle.kumir_values.specs.declared.run_end.RunFault.TheVariants.{Depth}
-use Rattle.kumir_values.specs.Runs as state
-use Rattle.kumir_values.specs.Runs.{Rest, stops, given, choose}
-use Rattle.kumir_values.specs.Operations.{BuiltIn, built_in_named}
-use Rattle.kumir_values.specs.Store.{Variable, TheAnswer, Local, Store, fitted, given_back}
-use Rattle.kumir_values.specs.Callees.{Placed, Program, Callee, Called, BuiltInCall, RobotCall, PenCall, Unknown, callee, or_else, if_known, is_named, Locals, params_of, block_names}
-use Rattle.kumir_values.specs.Meaning.{Allowed, usual, Enter, Then, ThenValue, Passed, numbers_of, claims, some_claim, fits, gives, returns, proceeds, at_header, receives_all, copied_out, fresh, enters, starts, run}
-use Rattle.kumir_values.specs.Meaning as Meaning
+use Rattle.kumir_meaning.specs.Runs as state
+use Rattle.kumir_meaning.specs.Runs.{Rest, stops, given, choose}
+use Rattle.kumir_meaning.specs.Operations.{BuiltIn, built_in_named}
+use Rattle.kumir_meaning.specs.Store.{Variable, TheAnswer, Local, Store, fitted, given_back}
+use Rattle.kumir_meaning.specs.Callees.{Placed, Program, Callee, Called, BuiltInCall, RobotCall, PenCall, Unknown, callee, or_else, if_known, is_named, Locals, params_of, block_names}
+use Rattle.kumir_meaning.specs.Meaning.{Allowed, usual, Enter, Then, ThenValue, Passed, numbers_of, claims, some_claim, fits, gives, returns, proceeds, at_header, receives_all, copied_out, fresh, enters, starts, run}
+use Rattle.kumir_meaning.specs.Meaning as Meaning
 use Rattle.stack_code.specs.declared.instruction.CodeLine.{CodeLine}
 use Rattle.stack_code.specs.declared.unit.ParamSlot.{ParamSlot}
 use Rattle.stack_code.specs.declared.unit.CodeUnit.{CodeUnit}

@@ -6,9 +6,9 @@ use Rattle.performer_kit.specs.declared.commands.Command.{Command}
 use Rattle.performer_kit.specs.declared.commands.Reply.{Reply}
 use Rattle.kumir_values.specs.declared.value.Value.{Value}
 use Rattle.kumir_values.specs.declared.run_end.RunFault.{RunFault}
-use Rattle.kumir_values.specs.Runs.{Act, Sent, RunState, Going, Fault, Rest, stops, given, tick, does, asks, takes, choose, input_as}
-use Rattle.kumir_values.specs.Store.{Store}
-use Rattle.kumir_values.specs.Meaning.{Allowed}
+use Rattle.kumir_meaning.specs.Runs.{Act, Sent, RunState, Going, Fault, Rest, stops, given, tick, does, asks, takes, choose, input_as}
+use Rattle.kumir_meaning.specs.Store.{Store}
+use Rattle.kumir_meaning.specs.Meaning.{Allowed}
 use Rattle.stack_code.specs.declared.instruction.CodeLine.{CodeLine}
 use Rattle.stack_code.specs.declared.unit.CodeUnit.{CodeUnit}
 use Rattle.stack_code.specs.CodeState.{State, Frame, Slots, next}

@@ -9,9 +9,9 @@ use Rattle.kumir_values.specs.declared.value.Value.{Value}
 use Rattle.kumir_values.specs.declared.run_end.RunFault.{RunFault}
 use Rattle.kumir_values.specs.declared.run_end.RunFault.TheVariants.{Unset, Elements}
 use Rattle.kumir_values.specs.Bounds.{elements}
-use Rattle.kumir_values.specs.Runs.{given, Fault, Rest}
-use Rattle.kumir_values.specs.Store.{Variable, Local, Store, Cell, Empty, Has, Holds, Spot, AtVariable, AtElement, with_cell, cell_of, value_in, with_element}
-use Rattle.kumir_values.specs.Meaning.{Allowed, Then, Passed, ByValue, ByPlace, ByTable, table_for, receives, receives_table, receives_all, back_to, by_mode, copied_out}
+use Rattle.kumir_meaning.specs.Runs.{given, Fault, Rest}
+use Rattle.kumir_meaning.specs.Store.{Variable, Local, Store, Cell, Empty, Has, Holds, Spot, AtVariable, AtElement, with_cell, cell_of, value_in, with_element}
+use Rattle.kumir_meaning.specs.Meaning.{Allowed, Then, Passed, ByValue, ByPlace, ByTable, table_for, receives, receives_table, receives_all, back_to, by_mode, copied_out}
 use Rattle.stack_code.specs.declared.instruction.CallPlace.{CallPlace}
 use Rattle.stack_code.specs.declared.instruction.CallPlace.TheVariants as place
 use Rattle.stack_code.specs.declared.unit.CodeUnit.{CodeUnit}

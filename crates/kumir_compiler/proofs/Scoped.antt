@@ -9,10 +9,10 @@ use Rattle.kumir_tree.specs.Tree.{Tree, Number, Truth, Answer, Named, Element, C
 use Rattle.kumir_tree.specs.Part.{Limits, Place, ToAnswer, ToScalar, ToElement, Shown, ShowValue, ShowText, ShowLine, Scalars, Tables, Formal}
 use Rattle.kumir_tree.specs.Program as tree
 use Rattle.kumir_tree.specs.Program.{Stands, Declare, Assign, Invoke, Times, While, Count, Forever, Until, Choose, Select, Assert, Input, Output, Leave, Quit, Block, done, ◌next◌, Arms, no_arms, arm}
-use Rattle.kumir_values.specs.Operations.{BuiltIn}
-use Rattle.kumir_values.specs.Store.{Variable, TheAnswer, Local}
-use Rattle.kumir_values.specs.Meaning.{name_of}
-use Rattle.kumir_values.specs.Callees.{Placed, Program, Callee, Called, BuiltInCall, RobotCall, PenCall, Unknown, callee, Locals, local_kind, params_of, stmt_names, act_names, block_names, arm_names}
+use Rattle.kumir_meaning.specs.Operations.{BuiltIn}
+use Rattle.kumir_meaning.specs.Store.{Variable, TheAnswer, Local}
+use Rattle.kumir_meaning.specs.Meaning.{name_of}
+use Rattle.kumir_meaning.specs.Callees.{Placed, Program, Callee, Called, BuiltInCall, RobotCall, PenCall, Unknown, callee, Locals, local_kind, params_of, stmt_names, act_names, block_names, arm_names}
 use Rattle.kumir_compiler.specs.Code.{Site, on_line, behind, answer_of, variables_of, header_site}
 use Rattle.kumir_compiler.specs.Compilable as scoped
 use Rattle.kumir_compiler.proofs.Slotted.{is_among, HasSlot, IsThere, arity, IsValueCall, IsName, IsArgument, IsValue, AreValues, AreArguments, IsPlace, AreLimits, IsTarget, HaveSlots, AreTables, IsInvoked, TakeInputs, AreShown, IsStride, CanAct, CanRun, CanChoose, IsSomeClaim, AreBounds, AreFormals, IsCompilableAlgorithm, AreCompilable}

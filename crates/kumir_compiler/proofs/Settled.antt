@@ -2,7 +2,7 @@
 use Rattle.std.proofs.Common.{◌≡◌, ℕ, List, Ok, Err, refl}
 use Rattle.std.specs.Prelude.{ℤ}
 use Rattle.kumir_values.specs.declared.run_end.RunFault.{RunFault}
-use Rattle.kumir_values.specs.Store.{AtElement, Local, Store, checked, settled}
+use Rattle.kumir_meaning.specs.Store.{AtElement, Local, Store, checked, settled}
 
 pub settled_ok : (x : List ℕ) (index at : List ℤ) (s : Store) → checked (s.cells (Local x)) index ≡ Ok at → settled (AtElement x index) s ≡ Ok (AtElement x at)
 settled_ok x index at s e = rw e refl

@@ -10,12 +10,12 @@ use Rattle.kumir_values.specs.declared.bounds.Bound.{Bound}
 use Rattle.kumir_values.specs.declared.run_end.RunFault.{RunFault}
 use Rattle.kumir_values.specs.declared.run_end.RunFault.TheVariants.{Bounds, Elements}
 use Rattle.kumir_values.specs.Bounds.{all_ordered, elements}
-use Rattle.kumir_values.specs.Runs as state
-use Rattle.kumir_values.specs.Runs.{Printed, Sent, Rest, stops, given, tick, does, asks, takes, choose}
-use Rattle.kumir_values.specs.Operations.{is_yes, text_of}
-use Rattle.kumir_values.specs.Store.{Variable, TheAnswer, Local, Store, Cell, Empty, Has, Spot, AtVariable, AtElement, checked, settled, put, with_cell, with_element, elements_in, without_values, made}
-use Rattle.kumir_values.specs.Callees.{Program, Callee, Called, BuiltInCall, RobotCall, PenCall, Unknown, callee, Locals}
-use Rattle.kumir_values.specs.Meaning.{Allowed, Enter, Then, numbers_of, steps_in, eval, reply_value, bounds, aims, stores, claims, cleared, makes, establishes, is_wall, pen_command, invokes, takes_for, kind_at, inputs, outputs}
+use Rattle.kumir_meaning.specs.Runs as state
+use Rattle.kumir_meaning.specs.Runs.{Printed, Sent, Rest, stops, given, tick, does, asks, takes, choose}
+use Rattle.kumir_meaning.specs.Operations.{is_yes, text_of}
+use Rattle.kumir_meaning.specs.Store.{Variable, TheAnswer, Local, Store, Cell, Empty, Has, Spot, AtVariable, AtElement, checked, settled, put, with_cell, with_element, elements_in, without_values, made}
+use Rattle.kumir_meaning.specs.Callees.{Program, Callee, Called, BuiltInCall, RobotCall, PenCall, Unknown, callee, Locals}
+use Rattle.kumir_meaning.specs.Meaning.{Allowed, Enter, Then, numbers_of, steps_in, eval, reply_value, bounds, aims, stores, claims, cleared, makes, establishes, is_wall, pen_command, invokes, takes_for, kind_at, inputs, outputs}
 use Rattle.stack_code.specs.declared.instruction.CodeLine.{CodeLine}
 use Rattle.stack_code.specs.declared.instruction.Instruction.TheVariants as instruction
 use Rattle.stack_code.specs.declared.unit.CodeUnit.{CodeUnit}

@@ -5,9 +5,9 @@ use Rattle.kumir_tree.specs.Tree.{Tree, Number, Truth, Answer, Named, Element, C
 use Rattle.kumir_tree.specs.Part.{Limits, Place, ToAnswer, ToScalar, ToElement, Shown, ShowValue, ShowText, ShowLine, Declares, Scalars, Tables, Formal}
 use Rattle.kumir_tree.specs.Program as tree
 use Rattle.kumir_tree.specs.Program.{Stmt, Stands, Declare, Assign, Invoke, Times, While, Count, Forever, Until, Choose, Select, Assert, Input, Output, Leave, Quit, Block, done, ◌next◌, Arms, no_arms, arm}
-use Rattle.kumir_values.specs.Store.{Variable, TheAnswer, Local, same_variable}
-use Rattle.kumir_values.specs.Meaning.{name_of}
-use Rattle.kumir_values.specs.Callees.{Placed, Program, Callee, Called, BuiltInCall, RobotCall, PenCall, Unknown, callee, local_kind, stmt_names, block_names}
+use Rattle.kumir_meaning.specs.Store.{Variable, TheAnswer, Local, same_variable}
+use Rattle.kumir_meaning.specs.Meaning.{name_of}
+use Rattle.kumir_meaning.specs.Callees.{Placed, Program, Callee, Called, BuiltInCall, RobotCall, PenCall, Unknown, callee, local_kind, stmt_names, block_names}
 use Rattle.stack_code.specs.Instructions.{is_test, numbers_asked}
 pub use Rattle.kumir_compiler.specs.Compilable.{IsThere, IsMissing, arity, IsValueCall, IsArgument}
 use Rattle.kumir_compiler.specs.Code.{Site, on_line, behind, place_kind, header_site}

@@ -9,12 +9,12 @@ use Rattle.kumir_tree.specs.Program.{Stmt, Stands as StandsAt, Declare, Assign, 
 use Rattle.kumir_values.specs.declared.value.Value.{Value}
 use Rattle.kumir_values.specs.declared.value.Value.TheVariants.{Whole}
 use Rattle.kumir_values.specs.declared.run_end.RunFault.TheVariants.{StepZero}
-use Rattle.kumir_values.specs.Runs as state
-use Rattle.kumir_values.specs.Runs.{Rest, stops, tick, choose}
-use Rattle.kumir_values.specs.Operations.{number_of, turns_of}
-use Rattle.kumir_values.specs.Store.{Variable, Store}
-use Rattle.kumir_values.specs.Callees.{Program, callee, Locals, stmt_names, block_names}
-use Rattle.kumir_values.specs.Meaning.{Allowed, Enter, Here, Then, eval, stride, carries_out, runs, selects}
+use Rattle.kumir_meaning.specs.Runs as state
+use Rattle.kumir_meaning.specs.Runs.{Rest, stops, tick, choose}
+use Rattle.kumir_meaning.specs.Operations.{number_of, turns_of}
+use Rattle.kumir_meaning.specs.Store.{Variable, Store}
+use Rattle.kumir_meaning.specs.Callees.{Program, callee, Locals, stmt_names, block_names}
+use Rattle.kumir_meaning.specs.Meaning.{Allowed, Enter, Here, Then, eval, stride, carries_out, runs, selects}
 use Rattle.stack_code.specs.declared.instruction.CodeLine.{CodeLine}
 use Rattle.stack_code.specs.declared.instruction.Instruction.TheVariants as instruction
 use Rattle.stack_code.specs.declared.unit.CodeUnit.{CodeUnit}

@@ -16,9 +16,9 @@ use Rattle.performer_kit.specs.declared.commands.RobotCommand.{RobotCommand}
 use Rattle.performer_kit.specs.declared.commands.RobotCommand.TheVariants as robot
 use Rattle.performer_kit.specs.declared.commands.PenShape.{PenShape}
 use Rattle.performer_kit.specs.declared.commands.PenShape.TheVariants as pen
-use Rattle.kumir_values.specs.Operations as run
-use Rattle.kumir_values.specs.Meaning.{name_of}
-use Rattle.kumir_values.specs.Callees.{Placed, Callee, callee, Locals, local_kind}
+use Rattle.kumir_meaning.specs.Operations as run
+use Rattle.kumir_meaning.specs.Meaning.{name_of}
+use Rattle.kumir_meaning.specs.Callees.{Placed, Callee, callee, Locals, local_kind}
 use Rattle.stack_code.specs.Instructions as code
 use Rattle.type_rules.specs.declared.callee.BuiltIn.{BuiltIn}
 use Rattle.type_rules.specs.declared.callee.BuiltIn.TheVariants.{Div, Mod, Iabs, Imin, Imax}

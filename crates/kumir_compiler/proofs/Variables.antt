@@ -2,7 +2,7 @@
 use Rattle.std.proofs.Common.{◌≡◌, ℕ, suc, ◌<◌, Bool, true, false, cond, List, [], ◌∷◌, ◌++◌, length, refl, sym, ap, ◌∙◌, arith, nat_eq, true≢false}
 use Rattle.std.proofs.lemmas.Bool.Decides.{nat_tests}
 use Rattle.std.proofs.lemmas.Slice.Eq.{bytes_eq-Decides}
-use Rattle.kumir_values.specs.Store.{Variable, TheAnswer, Local, same_variable}
+use Rattle.kumir_meaning.specs.Store.{Variable, TheAnswer, Local, same_variable}
 use Rattle.kumir_compiler.specs.Code.{position}
 use Rattle.kumir_compiler.proofs.Slotted.{is_among}
 

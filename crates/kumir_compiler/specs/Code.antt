@@ -12,10 +12,10 @@ use Rattle.kumir_tree.specs.Part.{Limits, Place, ToAnswer, ToScalar, ToElement, 
 use Rattle.kumir_tree.specs.Program as tree
 use Rattle.kumir_tree.specs.Program.{Stmt, Stands, Declare, Assign, Invoke, Times, While, Count, Forever, Until, Choose, Select, Assert, Input, Output, Leave, Quit, Block, done, ◌next◌, Arms, no_arms, arm}
 use Rattle.kumir_values.specs.declared.value.Value.TheVariants.{Whole, Truth}
-use Rattle.kumir_values.specs.Operations.{BuiltIn, Div, Mod, Abs, Min, Max}
-use Rattle.kumir_values.specs.Store.{Variable, TheAnswer, Local, same_variable}
-use Rattle.kumir_values.specs.Meaning.{name_of}
-use Rattle.kumir_values.specs.Callees.{Placed, Program, Callee, Called, BuiltInCall, RobotCall, PenCall, Unknown, callee, is_named, Locals, local_kind, params_of, stmt_names, block_names}
+use Rattle.kumir_meaning.specs.Operations.{BuiltIn, Div, Mod, Abs, Min, Max}
+use Rattle.kumir_meaning.specs.Store.{Variable, TheAnswer, Local, same_variable}
+use Rattle.kumir_meaning.specs.Meaning.{name_of}
+use Rattle.kumir_meaning.specs.Callees.{Placed, Program, Callee, Called, BuiltInCall, RobotCall, PenCall, Unknown, callee, is_named, Locals, local_kind, params_of, stmt_names, block_names}
 use Rattle.stack_code.specs.declared.instruction.CallPlace.{CallPlace}
 use Rattle.stack_code.specs.declared.instruction.CallPlace.TheVariants as place
 use Rattle.stack_code.specs.declared.instruction.CommandShape.TheVariants as command

@@ -4,9 +4,9 @@ use Rattle.kumir_tree.specs.Unit.{Known}
 use Rattle.kumir_tree.specs.Sound.{IsSound}
 use Rattle.performer_kit.specs.declared.commands.Reply.{Reply}
 use Rattle.kumir_values.specs.declared.value.Value.{Value}
-use Rattle.kumir_values.specs.Callees.{Program, program_of}
-use Rattle.kumir_values.specs.Samples.{adding, swapping}
-use Rattle.kumir_values.specs.Meaning.{run}
+use Rattle.kumir_meaning.specs.Callees.{Program, program_of}
+use Rattle.kumir_meaning.specs.Samples.{adding, swapping}
+use Rattle.kumir_meaning.specs.Meaning.{run}
 use Rattle.stack_code.specs.CodeRuns.{CodeRun, Begins}
 use Rattle.type_check.specs.Margin.{program_faults}
 use Rattle.kumir_compiler.specs.Code.{code_of}

@@ -8,9 +8,9 @@ use Rattle.performer_kit.specs.declared.commands.Reply.{Reply}
 use Rattle.kumir_values.specs.declared.value.Value.{Value}
 use Rattle.kumir_values.specs.declared.run_end.EndKind.{EndKind}
 use Rattle.kumir_values.specs.declared.run_end.EndKind.TheVariants as end_kind
-use Rattle.kumir_values.specs.Runs.{Act, Printed, Sent, RunState, Trace, only, after_act, end_of}
-use Rattle.kumir_values.specs.Runs as state
-use Rattle.kumir_values.specs.Meaning.{usual}
+use Rattle.kumir_meaning.specs.Runs.{Act, Printed, Sent, RunState, Trace, only, after_act, end_of}
+use Rattle.kumir_meaning.specs.Runs as state
+use Rattle.kumir_meaning.specs.Meaning.{usual}
 use Rattle.stack_code.specs.declared.unit.CodeUnit.{CodeUnit}
 use Rattle.stack_code.specs.Instructions.{acts_at}
 use Rattle.stack_code.specs.CodeRuns.{after_some, meet, exec, start, CodeRun, Begins}

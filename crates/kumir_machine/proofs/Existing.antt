@@ -8,10 +8,10 @@ use Rattle.kumir_tree.specs.declared.kind.Kind.{Kind}
 use Rattle.kumir_values.specs.declared.value.Value.{Value}
 use Rattle.kumir_values.specs.declared.run_end.RunFault.{RunFault}
 use Rattle.kumir_values.specs.declared.run_end.RunFault.TheVariants.{NoInput}
-use Rattle.kumir_values.specs.Runs.{Act, Sent, RunState, Trace, only, after_act, input_as}
-use Rattle.kumir_values.specs.Runs as state
-use Rattle.kumir_values.specs.Store.{given_back}
-use Rattle.kumir_values.specs.Meaning.{usual}
+use Rattle.kumir_meaning.specs.Runs.{Act, Sent, RunState, Trace, only, after_act, input_as}
+use Rattle.kumir_meaning.specs.Runs as state
+use Rattle.kumir_meaning.specs.Store.{given_back}
+use Rattle.kumir_meaning.specs.Meaning.{usual}
 use Rattle.stack_code.specs.declared.instruction.CallPlace.{CallPlace}
 use Rattle.stack_code.specs.declared.instruction.CodeLine.{CodeLine}
 use Rattle.stack_code.specs.declared.instruction.Instruction.{Instruction}

@@ -10,8 +10,8 @@ use Rattle.performer_kit.specs.declared.commands.Reply.TheVariants as reply
 use Rattle.kumir_values.specs.declared.value.Value.{Value}
 use Rattle.kumir_values.specs.declared.run_end.EndKind.{EndKind}
 use Rattle.kumir_values.specs.declared.run_end.EndKind.TheVariants as end_kind
-use Rattle.kumir_values.specs.Runs.{Act, Printed, Sent, RunState, Trace, end_of}
-use Rattle.kumir_values.specs.Runs as state
+use Rattle.kumir_meaning.specs.Runs.{Act, Printed, Sent, RunState, Trace, end_of}
+use Rattle.kumir_meaning.specs.Runs as state
 use Rattle.stack_code.specs.Instructions.{is_test}
 use Rattle.stack_code.specs.CodeRuns.{CodeRun, Begins}
 use Rattle.stack_code.specs.Validity.{ValidCode}

@@ -2,7 +2,7 @@
 use Rattle.std.specs.Prelude.{◌≡◌, ℕ, List, Some}
 use Rattle.performer_kit.specs.declared.commands.Reply.{Reply}
 use Rattle.kumir_values.specs.declared.value.Value.{Value}
-use Rattle.kumir_values.specs.Runs.{Trace}
+use Rattle.kumir_meaning.specs.Runs.{Trace}
 use Rattle.stack_code.specs.CodeRuns.{CodeRun}
 use Rattle.stack_code.specs.Validity.{IsValid, ValidCode}
 

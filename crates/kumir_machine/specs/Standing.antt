@@ -2,7 +2,7 @@
 use Rattle.std.specs.Prelude.{◌≡◌, ℕ, ◌≤◌, List, [], ◌∷◌, ◌++◌, Some}
 use Rattle.performer_kit.specs.declared.commands.Command.TheVariants.{Robot, Pen}
 use Rattle.performer_kit.specs.declared.commands.Reply.{Reply}
-use Rattle.kumir_values.specs.Runs.{Act, Sent}
+use Rattle.kumir_meaning.specs.Runs.{Act, Sent}
 use Rattle.stack_code.specs.CodeRuns.{start}
 use Rattle.stack_code.specs.Validity.{ValidCode}
 use Rattle.machine_steps.specs.declared.stage.Stage.{Stage}

@@ -2,7 +2,7 @@
 ghost use Rattle.std.specs.Prelude.{◌≡◌, ◌≤◌, ◌+◌, Some, IfOk};
 ghost use Rattle.std.specs.Arc.{arc_value};
 ghost use Rattle.kumir_machine.specs.Course.{Course, begun, owes, IsOwed, replied, advanced, Stays, IsNext, NeedsAll, IsWhole, IsLawful};
-ghost use Rattle.kumir_values.specs.Runs as state;
+ghost use Rattle.kumir_meaning.specs.Runs as state;
 ghost use Rattle.kumir_values.specs.declared.run_end.EndKind.TheVariants as end;
 ghost use Rattle.kumir_machine.specs.declared.answer.Advanced.TheVariants as answer;
 

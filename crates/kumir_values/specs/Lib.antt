@@ -2,10 +2,3 @@ pub mod Values
 pub mod Arithmetic
 pub mod Bounds
 pub mod Tables
-pub mod Runs
-pub mod Operations
-pub mod Store
-pub mod Callees
-pub mod Meaning
-pub mod Samples
-pub mod Computed

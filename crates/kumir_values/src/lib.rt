@@ -1,9 +1,8 @@
-//! Values, exact arithmetic within 32 bits, tables, how a run ends, and, as definitions, what programs mean.
+//! Values, exact arithmetic within 32 bits, tables, and how a run ends.
 #![tactic(auto)]
 
 mod arithmetic;
 mod bounds;
-mod laws;
 mod run_end;
 mod table;
 #[cfg(test)]

@@ -15,8 +15,8 @@ use Rattle.kumir_values.specs.declared.value.Value.{Value}
 use Rattle.kumir_values.specs.declared.run_end.RunFault.{RunFault}
 use Rattle.kumir_values.specs.declared.run_end.RunFault.TheVariants.{Depth}
 use Rattle.kumir_values.specs.declared.run_end.EndKind.TheVariants as end
-use Rattle.kumir_values.specs.Runs as state
-use Rattle.kumir_values.specs.Meaning.{usual}
+use Rattle.kumir_meaning.specs.Runs as state
+use Rattle.kumir_meaning.specs.Meaning.{usual}
 use Rattle.stack_code.specs.declared.instruction.CallPlace.{CallPlace}
 use Rattle.stack_code.specs.declared.instruction.CallPlace.TheVariants as place
 use Rattle.stack_code.specs.declared.instruction.CodeLine.{CodeLine}

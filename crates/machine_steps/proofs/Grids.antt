@@ -7,7 +7,7 @@ use Rattle.kumir_values.specs.declared.value.Value.{Value}
 use Rattle.kumir_values.specs.declared.run_end.RunFault.{RunFault}
 use Rattle.kumir_values.specs.Bounds.{inside}
 use Rattle.kumir_values.specs.Tables.{changed, is_of_kind}
-use Rattle.kumir_values.specs.Store.{Cell, Holds, TableMap, checked, with_element}
+use Rattle.kumir_meaning.specs.Store.{Cell, Holds, TableMap, checked, with_element}
 use Rattle.stack_code.specs.CodeState.{State, Frame, Plain, cell_in, next, next_with}
 use Rattle.stack_code.specs.Instructions.{if_fine}
 use Rattle.machine_steps.specs.declared.acted.Acted.{Acted}

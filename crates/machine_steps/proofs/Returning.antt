@@ -8,7 +8,7 @@ use Rattle.std.proofs.lemmas.List.{take_all}
 use Rattle.stack_code.specs.declared.instruction.CallPlace.{CallPlace}
 use Rattle.stack_code.specs.declared.unit.ParamSlot.{ParamSlot}
 use Rattle.kumir_values.specs.declared.value.Value.{Value}
-use Rattle.kumir_values.specs.Store.{Cell, value_in, with_element}
+use Rattle.kumir_meaning.specs.Store.{Cell, value_in, with_element}
 use Rattle.stack_code.specs.declared.instruction.CallPlace.TheVariants as place
 use Rattle.stack_code.specs.CodeState.{Slots, Plain, with_slot, cell_in}
 use Rattle.stack_code.specs.Instructions.{index_in, copied, copied_to, copied_out}

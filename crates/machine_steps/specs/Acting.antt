@@ -2,7 +2,7 @@
 use Rattle.std.specs.Prelude.{◌≡◌, List, Option, Some, None}
 use Rattle.kumir_values.specs.declared.run_end.EndKind.{EndKind}
 use Rattle.performer_kit.specs.declared.commands.Command.TheVariants.{Pen}
-use Rattle.kumir_values.specs.Runs.{Act, Printed, Sent, end_of}
+use Rattle.kumir_meaning.specs.Runs.{Act, Printed, Sent, end_of}
 use Rattle.machine_steps.specs.declared.acted.Acted.{Acted}
 use Rattle.machine_steps.specs.declared.acted.Acted.TheVariants as did
 use Rattle.stack_code.specs.CodeState.{State, Frame}

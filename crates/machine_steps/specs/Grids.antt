@@ -6,8 +6,8 @@ use Rattle.kumir_values.specs.declared.run_end.RunFault.{RunFault}
 use Rattle.kumir_values.specs.declared.run_end.RunFault.TheVariants.{Bounds, Elements}
 use Rattle.kumir_values.specs.Bounds.{all_ordered, elements}
 use Rattle.kumir_values.specs.Tables.{Grid}
-use Rattle.kumir_values.specs.Store.{without_values}
-use Rattle.kumir_values.specs.Runs as state
+use Rattle.kumir_meaning.specs.Store.{without_values}
+use Rattle.kumir_meaning.specs.Runs as state
 use Rattle.stack_code.specs.CodeState.{State}
 use Rattle.stack_code.specs.Instructions.{Event, Go, Halt}
 use Rattle.machine_steps.specs.declared.held.Cell.TheVariants.{Holds}

@@ -1,10 +1,10 @@
 -- How what a machine holds stands for a moment of running code.
 use Rattle.std.specs.Prelude.{◌≡◌, ℕ, List, length, get_or, slice_get, Option, Some, None}
-use Rattle.kumir_values.specs.Operations as operations
+use Rattle.kumir_meaning.specs.Operations as operations
 use Rattle.machine_steps.specs.declared.values.BuiltIn.{BuiltIn}
 use Rattle.machine_steps.specs.declared.values.BuiltIn.TheVariants as call
 use Rattle.kumir_values.specs.Tables.{Grid, value_at}
-use Rattle.kumir_values.specs.Store as store
+use Rattle.kumir_meaning.specs.Store as store
 use Rattle.machine_steps.specs.declared.held.Cell.{Cell}
 use Rattle.machine_steps.specs.declared.held.Cell.TheVariants.{Empty, Has, Holds}
 use Rattle.machine_steps.specs.declared.held.Turns.{Turns}

@@ -2,7 +2,7 @@
 use Rattle.std.specs.Prelude.{◌≡◌, ℕ, ◌+◌, ◌-◌, List, [], ◌∷◌, length, drop, slice_get, Option, Some, None, All}
 use Rattle.performer_kit.specs.declared.commands.Command.TheVariants.{Pen}
 use Rattle.kumir_values.specs.declared.run_end.EndKind.{EndKind}
-use Rattle.kumir_values.specs.Runs.{Printed, Sent, RunState, end_of}
+use Rattle.kumir_meaning.specs.Runs.{Printed, Sent, RunState, end_of}
 use Rattle.stack_code.specs.declared.instruction.CommandShape.TheVariants as shape
 use Rattle.stack_code.specs.declared.instruction.Instruction.{Instruction}
 use Rattle.stack_code.specs.declared.instruction.Instruction.TheVariants as code

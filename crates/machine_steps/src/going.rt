@@ -1,6 +1,6 @@
 //! Instructions until the run stops: inputs are taken, and algorithms return.
 ghost use Rattle.std.specs.Prelude.{◌≡◌, ◌<◌, ◌+◌, ◌^◌, slice_get, false, Some, IfOk, IfNone, IfSome, OnOk};
-ghost use Rattle.kumir_values.specs.Runs.{input_as};
+ghost use Rattle.kumir_meaning.specs.Runs.{input_as};
 ghost use Rattle.stack_code.specs.Instructions.{unit_at};
 ghost use Rattle.stack_code.specs.declared.instruction.Instruction.TheVariants as code;
 ghost use Rattle.machine_steps.specs.Local.{is_local};

@@ -3,8 +3,8 @@ ghost use Rattle.std.specs.Prelude.{◌≡◌, IfOk, IfErr, IsOk, IsTrue, IsFals
 ghost use Rattle.std.specs.Ordering.{int_eq};
 ghost use Rattle.kumir_values.specs.Bounds.{inside};
 ghost use Rattle.kumir_values.specs.Tables.{is_of_kind};
-ghost use Rattle.kumir_values.specs.Store as store;
-ghost use Rattle.kumir_values.specs.Store.{element, checked, fitted, same_bounds, with_element, elements_in};
+ghost use Rattle.kumir_meaning.specs.Store as store;
+ghost use Rattle.kumir_meaning.specs.Store.{element, checked, fitted, same_bounds, with_element, elements_in};
 ghost use Rattle.stack_code.specs.CodeState.{paired};
 ghost use Rattle.machine_steps.specs.Moments.{table_map, cell_of};
 ghost use Rattle.machine_steps.specs.Grids.{IsFine};

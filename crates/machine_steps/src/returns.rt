@@ -1,8 +1,8 @@
 //! The return of an algorithm: what is copied out, and the value that is given back.
 ghost use Rattle.std.specs.Prelude.{◌≡◌, ◌≢◌, ◌<◌, ℕ, length, map, All, true, IfOk, OnOk, Ok, nat_eq};
 ghost use Rattle.std.specs.List.{list_any};
-ghost use Rattle.kumir_values.specs.Store as store;
-ghost use Rattle.kumir_values.specs.Store.{value_in, with_element};
+ghost use Rattle.kumir_meaning.specs.Store as store;
+ghost use Rattle.kumir_meaning.specs.Store.{value_in, with_element};
 ghost use Rattle.stack_code.specs.CodeState.{Plain, with_slot, cell_in};
 ghost use Rattle.stack_code.specs.Instructions.{index_in, copied, copied_to, copied_out};
 ghost use Rattle.machine_steps.specs.Moments.{cell_of, slots_of};

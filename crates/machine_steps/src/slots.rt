@@ -1,8 +1,8 @@
 //! The slots of an algorithm that runs.
 ghost use Rattle.std.specs.Prelude.{◌≡◌, ◌<◌, length, IfOk, MatchOption};
 ghost use Rattle.stack_code.specs.CodeState.{Plain, with_slot, no_slots, cell_in};
-ghost use Rattle.kumir_values.specs.Store as store;
-ghost use Rattle.kumir_values.specs.Store.{read, with_element};
+ghost use Rattle.kumir_meaning.specs.Store as store;
+ghost use Rattle.kumir_meaning.specs.Store.{read, with_element};
 ghost use Rattle.machine_steps.specs.Moments.{cell_of, slot_of, turns_of, slots_of, AllEmpty};
 
 use crate::grid::put_element;

@@ -3,8 +3,8 @@ use Rattle.std.specs.Prelude.{ℕ, ◌+◌, false, List, [], ◌∷◌, map, rev
 use Rattle.kumir_values.specs.declared.value.Value.{Value}
 use Rattle.kumir_values.specs.declared.value.Value.TheVariants.{Truth}
 use Rattle.kumir_values.specs.declared.bounds.Bound.{Bound}
-use Rattle.kumir_values.specs.Operations.{number_of}
-use Rattle.kumir_values.specs.Store.{Cell, Empty}
+use Rattle.kumir_meaning.specs.Operations.{number_of}
+use Rattle.kumir_meaning.specs.Store.{Cell, Empty}
 use Rattle.stack_code.specs.declared.instruction.CallPlace.{CallPlace}
 
 -- what a slot holds: what a variable holds, an index among it; the turns that are left; or the next number, the last one and the step of a loop

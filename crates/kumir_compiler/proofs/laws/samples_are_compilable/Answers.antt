@@ -1,5 +1,5 @@
 use Rattle.performer_kit.specs.Commands as commands
-use Rattle.kumir_values.specs.Samples.{adding, swapping}
+use Rattle.kumir_meaning.specs.Samples.{adding, swapping}
 use Rattle.kumir_compiler.specs.Compilable.{IsCompilable}
 use Rattle.kumir_compiler.proofs.laws.samples_are_compilable.Goals as goal
 

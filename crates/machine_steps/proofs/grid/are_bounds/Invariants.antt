@@ -1,5 +1,5 @@
 use Rattle.std.proofs.Common.{◌≡◌, ◌*◌, ◌-◌, drop, length}
-use Rattle.kumir_values.specs.Store.{same_bounds}
+use Rattle.kumir_meaning.specs.Store.{same_bounds}
 use Rattle.stack_code.specs.CodeState.{paired}
 use Rattle.machine_steps.proofs.grid.are_bounds.Given as goal
 

@@ -1,5 +1,5 @@
 use Rattle.std.proofs.Common.{◌∙◌, ap}
-use Rattle.kumir_values.specs.Store.{Empty}
+use Rattle.kumir_meaning.specs.Store.{Empty}
 use Rattle.stack_code.specs.CodeState.{Plain}
 use Rattle.machine_steps.specs.Moments.{slots_of}
 use Rattle.machine_steps.proofs.Updates.{elsewhere}

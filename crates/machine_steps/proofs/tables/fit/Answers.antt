@@ -1,5 +1,5 @@
 use Rattle.std.proofs.Common.{◌∙◌}
-use Rattle.kumir_values.specs.Store.{fitted}
+use Rattle.kumir_meaning.specs.Store.{fitted}
 use Rattle.stack_code.specs.CodeState.{cell_in, paired}
 use Rattle.machine_steps.specs.Moments.{slots_of}
 use Rattle.machine_steps.proofs.Grids.{fine_on, fine_with}

@@ -1,5 +1,5 @@
 use Rattle.std.proofs.Common.{◌∙◌, refl}
-use Rattle.kumir_values.specs.Store.{checked}
+use Rattle.kumir_meaning.specs.Store.{checked}
 use Rattle.stack_code.specs.CodeState.{cell_in}
 use Rattle.machine_steps.specs.Moments.{slots_of}
 use Rattle.machine_steps.proofs.Grids.{fine_on, fine_with}

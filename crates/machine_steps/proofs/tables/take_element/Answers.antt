@@ -1,5 +1,5 @@
 use Rattle.std.proofs.Common.{◌∙◌, ap}
-use Rattle.kumir_values.specs.Store.{element}
+use Rattle.kumir_meaning.specs.Store.{element}
 use Rattle.stack_code.specs.CodeState.{cell_in}
 use Rattle.machine_steps.specs.Moments.{slots_of}
 use Rattle.machine_steps.proofs.Giving.{given_on}

@@ -1,5 +1,5 @@
 use Rattle.std.proofs.Common.{◌∙◌, ap}
-use Rattle.kumir_values.specs.Store.{Empty, with_element}
+use Rattle.kumir_meaning.specs.Store.{Empty, with_element}
 use Rattle.stack_code.specs.CodeState.{Plain, with_slot}
 use Rattle.machine_steps.specs.Moments.{cell_of, slots_of}
 use Rattle.machine_steps.proofs.Updates.{changed_twice}

@@ -1,5 +1,5 @@
 use Rattle.std.proofs.Common.{◌<◌, ◌∙◌, ap, subst, sym, set, length}
-use Rattle.kumir_values.specs.Store.{Empty}
+use Rattle.kumir_meaning.specs.Store.{Empty}
 use Rattle.stack_code.specs.CodeState.{Plain, with_slot}
 use Rattle.machine_steps.specs.declared.held.Cell.TheVariants as cell
 use Rattle.machine_steps.specs.declared.held.Held.TheVariants as held

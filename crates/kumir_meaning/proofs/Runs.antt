@@ -2,8 +2,8 @@
 use Rattle.std.proofs.Common.{refl}
 use Rattle.performer_kit.specs.Commands.{robot_command_named, pen_shape_named, robot_name, pen_name}
 use Rattle.kumir_values.specs.Arithmetic.{power_of}
-use Rattle.kumir_values.specs.Meaning.{run, run_within}
-use Rattle.kumir_values.specs.Computed.{LoopsRun, ExpressionsRun, CallsRun, TablesRun, PerformersRun}
+use Rattle.kumir_meaning.specs.Meaning.{run, run_within}
+use Rattle.kumir_meaning.specs.Computed.{LoopsRun, ExpressionsRun, CallsRun, TablesRun, PerformersRun}
 
 pub loops_run : LoopsRun
 unfolding run run_within power_of robot_command_named pen_shape_named robot_name pen_name

@@ -1,6 +1,6 @@
 //! Runs of small programs, computed from the definition of the meaning. No code needs to run them.
 
-ghost use Rattle.kumir_values.specs.Computed.{LoopsRun, ExpressionsRun, CallsRun, TablesRun, PerformersRun};
+ghost use Rattle.kumir_meaning.specs.Computed.{LoopsRun, ExpressionsRun, CallsRun, TablesRun, PerformersRun};
 
 /// Loops with no turn, with one and with several; bounds at the ends of the range; the step of each test.
 pub fn loops_run()

@@ -22,11 +22,11 @@ use Rattle.kumir_values.specs.declared.bounds.Bound.{Bound}
 use Rattle.kumir_values.specs.declared.run_end.RunFault.{RunFault}
 use Rattle.kumir_values.specs.declared.run_end.RunFault.TheVariants.{Unset, StepZero, Depth}
 use Rattle.kumir_values.specs.Bounds.{elements}
-use Rattle.kumir_values.specs.Runs as state
-use Rattle.kumir_values.specs.Runs.{Act, Printed, Sent, Trace, Rest, stops, given, tick, does, asks, takes, choose}
-use Rattle.kumir_values.specs.Operations.{number_of, is_yes, turns_of, text_of, combined, decided, negated, BuiltIn, applied}
-use Rattle.kumir_values.specs.Store.{TheAnswer, Local, Cell, Empty, Has, Holds, TableMap, Store, with_cell, cell_of, value_in, read, element, given_back, Spot, AtVariable, AtElement, settled, read_at, put, without_values, made, in_room, fitted}
-use Rattle.kumir_values.specs.Callees.{Placed, Program, Callee, Called, BuiltInCall, RobotCall, PenCall, Unknown, callee, Locals, local_kind, params_of, stmt_names, block_names}
+use Rattle.kumir_meaning.specs.Runs as state
+use Rattle.kumir_meaning.specs.Runs.{Act, Printed, Sent, Trace, Rest, stops, given, tick, does, asks, takes, choose}
+use Rattle.kumir_meaning.specs.Operations.{number_of, is_yes, turns_of, text_of, combined, decided, negated, BuiltIn, applied}
+use Rattle.kumir_meaning.specs.Store.{TheAnswer, Local, Cell, Empty, Has, Holds, TableMap, Store, with_cell, cell_of, value_in, read, element, given_back, Spot, AtVariable, AtElement, settled, read_at, put, without_values, made, in_room, fitted}
+use Rattle.kumir_meaning.specs.Callees.{Placed, Program, Callee, Called, BuiltInCall, RobotCall, PenCall, Unknown, callee, Locals, local_kind, params_of, stmt_names, block_names}
 
 -- what goes on with the store, with a value, with several values
 abbrev pub Then : Type 0

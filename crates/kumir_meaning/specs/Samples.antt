@@ -9,7 +9,7 @@ use Rattle.kumir_tree.specs.Tree.{Tree, Number, Truth, Named, Element, Call, Plu
 use Rattle.kumir_tree.specs.Seen.{listed}
 use Rattle.kumir_tree.specs.Part.{Place, ToAnswer, ToScalar, ToElement, Shown, ShowValue, ShowText, ShowLine, Scalars, Tables, Formal}
 use Rattle.kumir_tree.specs.Program.{Act, Stands, Declare, Assign, Invoke, Times, While, Count, Forever, Until, Choose, Select, Input, Output, Leave, Quit, Block, done, ◌next◌, no_arms, arm}
-use Rattle.kumir_values.specs.Callees.{Placed, Program}
+use Rattle.kumir_meaning.specs.Callees.{Placed, Program}
 
 -- ---- how these programs are written down
 

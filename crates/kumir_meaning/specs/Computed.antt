@@ -13,11 +13,11 @@ use Rattle.performer_kit.specs.declared.commands.Command.TheVariants.{Robot, Pen
 use Rattle.performer_kit.specs.declared.commands.Reply.TheVariants as reply
 use Rattle.kumir_values.specs.declared.value.Value.TheVariants as value
 use Rattle.kumir_values.specs.declared.run_end.RunFault.TheVariants as fault
-use Rattle.kumir_values.specs.Runs.{Act, Printed, Sent, RunState}
-use Rattle.kumir_values.specs.Runs as state
-use Rattle.kumir_values.specs.Callees.{Program}
-use Rattle.kumir_values.specs.Meaning.{run, run_within}
-use Rattle.kumir_values.specs.Samples.{num, minus, call, counting, idle, repeating, endless, spinning, printing, adding, factorials, squaring, swapping, descending, wanting, quitting, valueless, ordered, hiding, reading, passing, unmade, remaking, selecting, painting, drawing}
+use Rattle.kumir_meaning.specs.Runs.{Act, Printed, Sent, RunState}
+use Rattle.kumir_meaning.specs.Runs as state
+use Rattle.kumir_meaning.specs.Callees.{Program}
+use Rattle.kumir_meaning.specs.Meaning.{run, run_within}
+use Rattle.kumir_meaning.specs.Samples.{num, minus, call, counting, idle, repeating, endless, spinning, printing, adding, factorials, squaring, swapping, descending, wanting, quitting, valueless, ordered, hiding, reading, passing, unmade, remaking, selecting, painting, drawing}
 
 abbrev pub number : ℤ → Act
 number z = Printed (signed_decimal z)

@@ -8,7 +8,7 @@ use Rattle.kumir_tree.specs.Unit.{Algorithm, Ending, Grown, Prelude, Faulty, Kno
 use Rattle.performer_kit.specs.declared.commands.RobotCommand.{RobotCommand}
 use Rattle.performer_kit.specs.declared.commands.PenShape.{PenShape}
 use Rattle.performer_kit.specs.Commands.{robot_command_named, pen_shape_named}
-use Rattle.kumir_values.specs.Operations.{BuiltIn, built_in_named}
+use Rattle.kumir_meaning.specs.Operations.{BuiltIn, built_in_named}
 
 -- an algorithm with the line of the text at which its lines begin
 pub record Placed : Type 0 where
