@@ -1,4 +1,4 @@
-use crate::{Block, Case, Cases, Expr, Statement, What};
+use kumir_tree::{Block, Case, Cases, Expr, Line, LineRefusal, Statement, What};
 use sqlite_items::Items;
 use std::alloc::{AllocError, Global};
 use std::test::Fail;
@@ -66,5 +66,25 @@ fn a_deep_chain_is_copied(rt: HostRuntime) -> Result<(), Fail> {
         at = inner.get();
     }
     assert_eq!(rt; signs, 1_024);
+    Ok(())
+}
+
+// The length of the line with this text in bytes.
+fn line_len(alloc: Global, text: &str) -> Result<usize, LineRefusal> {
+    let line = Line::of_text(alloc, text)?;
+    Ok(line.as_str().len())
+}
+
+#[test]
+fn a_line_has_no_line_feed(rt: HostRuntime) -> Result<(), Fail> {
+    for (text, len) in [
+        ("", Ok(0)),
+        ("нц пока", Ok(13)),
+        ("\r\t", Ok(2)),
+        ("\n", Err(LineRefusal::LineFeed)),
+        ("а\nб", Err(LineRefusal::LineFeed)),
+    ] {
+        assert_eq!(rt; line_len(rt.alloc(), text), len, "{text}");
+    }
     Ok(())
 }
