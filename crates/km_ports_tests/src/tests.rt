@@ -1,34 +1,37 @@
-ghost use Rattle.std.specs.Prelude.{◌≡◌, ◌<◌, ◌≤◌, ◌++◌, ◌⊎◌, List, ℕ, Some, [], length};
+ghost use Rattle.std.specs.Prelude.{◌≡◌, ◌<◌, ◌≤◌, ◌++◌, ◌⊎◌, List, ℕ, Some, [], length, Ok, Err};
 ghost use Rattle.km_ports.specs.Ports.{Rose};
-ghost use Rattle.km_ports.specs.declared.status.Status.TheVariants.{Fine, Read, Write, Memory, TooLong};
+ghost use Rattle.km_ports.specs.declared.status.Status.TheVariants.{Read, Write, Memory, TooLong};
 ghost use Rattle.km_ports.specs.declared.status.Excess.TheVariants.{Bytes};
 
-use crate::{
-    Excess, MemSink, MemSource, PutFault, ReadRefusal, Sink, Source, Status, StdSink, StdSource,
-    SureSource, VecSink, put_all, read_within,
+use km_ports::{
+    Excess, MemSink, MemSource, Sink, Source, Status, StdSink, StdSource, SureSource, VecSink,
+    put_all, read_within,
 };
 use std::alloc::{AllocError, Global};
 use std::io;
 use std::test::Fail;
 
 /// Copies a whole input, as a command does.
-fn copy<I: Source, O: Sink>(alloc: Global, input: &mut I, output: &mut O, most: usize) -> Status
-    ensures fine { (left written : List ℕ) → result ≡ Fine → I.left input.old ≡ Some left → O.written output.old ≡ Some written → (O.written output.new ≡ Some (written ++ left)) × (I.left input.new ≡ Some []) }
-    ensures read { result ≡ Read → Rose (I.faults input.old) (I.faults input.new) }
-    ensures write { result ≡ Write → Rose (O.faults output.old) (O.faults output.new) }
-    ensures long { (left : List ℕ) → result ≡ TooLong Bytes → I.left input.old ≡ Some left → most < length left }
-    ensures complete { (left : List ℕ) → I.left input.old ≡ Some left → length left ≤ most → I.faults input.new ≡ I.faults input.old → O.faults output.new ≡ O.faults output.old → (result ≡ Fine) ⊎ (result ≡ Memory) }
+fn copy<I: Source, O: Sink>(
+    alloc: Global,
+    input: &mut I,
+    output: &mut O,
+    most: usize,
+) -> Result<(), Status>
+    ensures read { result ≡ Err Read → Rose (I.state input.old).faults (I.state input.new).faults }
+    ensures write { result ≡ Err Write → Rose (O.state output.old).faults (O.state output.new).faults }
+    ensures long { (left : List ℕ) → result ≡ Err (TooLong Bytes) → (I.state input.old).left ≡ Some left → most < length left }
 {
-    let bytes = match read_within(alloc, input, most) {
-        Ok(bytes) => bytes,
-        Err(ReadRefusal::Failed) => return Status::Read,
-        Err(ReadRefusal::TooLong) => return Status::TooLong(Excess::Bytes),
-        Err(ReadRefusal::Memory) => return Status::Memory,
-    };
-    match put_all(output, &bytes) {
-        Ok(()) => Status::Fine,
-        Err(PutFault::Failed) => Status::Write,
-        Err(PutFault::Memory) => Status::Memory,
+    let bytes = read_within(alloc, input, most)?;
+    put_all(output, &bytes)?;
+    Ok(())
+}
+
+/// The number of the status that a copy ends with.
+fn number_of(copied: Result<(), Status>) -> u8 {
+    match copied {
+        Ok(()) => Status::Fine.number(),
+        Err(status) => status.number(),
     }
 }
 
@@ -137,7 +140,7 @@ fn copies_in_pieces(rt: HostRuntime) -> Result<(), Fail> {
     let alloc = rt.alloc();
     let mut source = MemSource::new(b"abcdefghij".to_vec(alloc)?, 4, Vec::new(alloc));
     let mut sink = MemSink::new(alloc, 3, Vec::new(alloc));
-    assert_eq!(rt; copy(alloc, &mut source, &mut sink, 10).number(), 0);
+    assert_eq!(rt; number_of(copy(alloc, &mut source, &mut sink, 10)), 0);
     assert_eq!(rt; sink.written(), b"abcdefghij".as_slice());
     Ok(())
 }
@@ -147,7 +150,7 @@ fn copies_at_once(rt: HostRuntime) -> Result<(), Fail> {
     let alloc = rt.alloc();
     let mut source = SureSource::new(b"abcdefghij".to_vec(alloc)?);
     let mut sink = VecSink::new(alloc);
-    assert_eq!(rt; copy(alloc, &mut source, &mut sink, 10).number(), 0);
+    assert_eq!(rt; number_of(copy(alloc, &mut source, &mut sink, 10)), 0);
     assert_eq!(rt; sink.written(), b"abcdefghij".as_slice());
     Ok(())
 }
@@ -157,13 +160,13 @@ fn copies_streams(rt: HostRuntime) {
     let alloc = rt.alloc();
     let mut source = StdSource::new(b"abcdefghij".as_slice());
     let mut sink = StdSink::new(Vec::new(alloc));
-    assert_eq!(rt; copy(alloc, &mut source, &mut sink, 10).number(), 0);
+    assert_eq!(rt; number_of(copy(alloc, &mut source, &mut sink, 10)), 0);
 }
 
 /// The status of reading so many bytes within a limit.
 fn status_of(alloc: Global, length: usize, most: usize) -> Result<u8, AllocError> {
     let mut source = SureSource::new(vec![in alloc; 7; length]?);
-    Ok(copy(alloc, &mut source, &mut VecSink::new(alloc), most).number())
+    Ok(number_of(copy(alloc, &mut source, &mut VecSink::new(alloc), most)))
 }
 
 #[test]
@@ -200,12 +203,12 @@ fn statuses_of_faults(rt: HostRuntime) {
     let alloc = rt.alloc();
     let mut source = StdSource::new(Broken);
     assert_eq!(rt;
-        copy(alloc, &mut source, &mut VecSink::new(alloc), 10).number(),
+        number_of(copy(alloc, &mut source, &mut VecSink::new(alloc), 10)),
         3
     );
     let mut source = StdSource::new(b"abc".as_slice());
     assert_eq!(rt;
-        copy(alloc, &mut source, &mut StdSink::new(Stuck), 10).number(),
+        number_of(copy(alloc, &mut source, &mut StdSink::new(Stuck), 10)),
         4
     );
 }

@@ -1,7 +1,7 @@
-use crate::{ApplyRefusal, Edit, TEXT_LIMITS, Text, TextRefusal, Versions};
 use kumir_tree::{Line, Lines};
 use std::alloc::{AllocError, Global};
 use std::test::Fail;
+use text_versions::{ApplyRefusal, Edit, TEXT_LIMITS, Text, TextRefusal, Versions};
 
 /// The line with this text, which has no line feed.
 fn line_of(alloc: Global, text: &str) -> Result<Line, AllocError> {

@@ -3,7 +3,7 @@ use Rattle.std.specs.List.{AllByRecursion}
 use Rattle.std.specs.Str.{NonePass, chars}
 use Rattle.std.proofs.lemmas.Str.{chars_from_encodes}
 use Rattle.std.proofs.lemmas.List.Elements.{All-from_recursion}
-use Rattle.text_versions.proofs.tests.line_of.Goals as goal
+use Rattle.text_versions_tests.proofs.tests.line_of.Goals as goal
 
 no_feed : (cs : List ℕ) → NonePass (λ d. nat_eq d 10) cs → AllByRecursion (λ c. c ≢ 10) cs
 no_feed [] none = tt
