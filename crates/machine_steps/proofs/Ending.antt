@@ -11,11 +11,11 @@ use Rattle.kumir_values.specs.declared.value.Value.{Value}
 use Rattle.kumir_values.specs.declared.bounds.Bound.{Bound}
 use Rattle.kumir_values.specs.declared.run_end.RunFault.{RunFault}
 use Rattle.kumir_values.specs.Bounds.{all_ordered, elements}
-use Rattle.kumir_meaning.specs.Operations.{number_of, is_yes, combined}
+use Rattle.kumir_meaning.specs.Operators.{number_of, is_yes, combined}
 use Rattle.kumir_meaning.specs.Store.{elements_in, given_back}
 use Rattle.kumir_meaning.specs.Runs.{Act, RunState}
 use Rattle.kumir_meaning.specs.Runs as state
-use Rattle.kumir_meaning.specs.Meaning.{usual, Allowed}
+use Rattle.kumir_meaning.specs.Runs.{usual, Allowed}
 use Rattle.stack_code.specs.declared.instruction.CallPlace.{CallPlace}
 use Rattle.stack_code.specs.declared.instruction.CodeLine.{CodeLine}
 use Rattle.stack_code.specs.declared.instruction.CommandShape.TheVariants.{Robot, Pen}

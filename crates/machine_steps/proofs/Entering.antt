@@ -16,7 +16,7 @@ use Rattle.kumir_values.specs.declared.run_end.RunFault.{RunFault}
 use Rattle.kumir_values.specs.declared.run_end.RunFault.TheVariants.{Depth}
 use Rattle.kumir_values.specs.declared.run_end.EndKind.TheVariants as end
 use Rattle.kumir_meaning.specs.Runs as state
-use Rattle.kumir_meaning.specs.Meaning.{usual}
+use Rattle.kumir_meaning.specs.Runs.{usual}
 use Rattle.stack_code.specs.declared.instruction.CallPlace.{CallPlace}
 use Rattle.stack_code.specs.declared.instruction.CallPlace.TheVariants as place
 use Rattle.stack_code.specs.declared.instruction.CodeLine.{CodeLine}

@@ -9,7 +9,7 @@ use Rattle.kumir_values.specs.declared.run_end.RunFault.TheVariants.{NoInput}
 use Rattle.kumir_values.specs.declared.run_end.EndKind.TheVariants as end
 use Rattle.kumir_meaning.specs.Runs.{Printed, Sent, RunState, only, input_as}
 use Rattle.kumir_meaning.specs.Runs as state
-use Rattle.kumir_meaning.specs.Meaning.{usual}
+use Rattle.kumir_meaning.specs.Runs.{usual}
 use Rattle.stack_code.specs.declared.unit.CodeUnit.{CodeUnit}
 use Rattle.stack_code.specs.CodeState.{State}
 use Rattle.stack_code.specs.Instructions.{Event, Go, Tick, Does, Asks, Takes, Halt, step}

@@ -5,7 +5,7 @@ use Rattle.std.specs.Ordering.{int_eq}
 use Rattle.std.proofs.lemmas.Grind.{common_steps}
 use Rattle.kumir_values.specs.declared.bounds.Bound.{Bound}
 use Rattle.kumir_values.specs.declared.value.Value.{Value}
-use Rattle.kumir_meaning.specs.Operations.{number_of}
+use Rattle.kumir_meaning.specs.Operators.{number_of}
 use Rattle.kumir_meaning.specs.Store.{same_bounds}
 use Rattle.stack_code.specs.CodeState.{paired}
 

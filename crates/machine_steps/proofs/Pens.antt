@@ -1,8 +1,8 @@
 -- The numbers of a command.
 use Rattle.std.proofs.Common.{◌≡◌, List, [], ◌∷◌, map, refl}
 use Rattle.kumir_values.specs.declared.value.Value.{Value}
-use Rattle.kumir_meaning.specs.Operations.{number_of, first_number, second_number}
-use Rattle.kumir_meaning.specs.Meaning.{first_of_all, second_of_all}
+use Rattle.kumir_meaning.specs.Operators.{number_of, first_number, second_number}
+use Rattle.kumir_meaning.specs.Runs.{first_of_all, second_of_all}
 
 pub first_same : (vs : List Value) → first_number vs ≡ first_of_all (map number_of vs)
 first_same [] = refl

@@ -6,7 +6,7 @@ use Rattle.std.proofs.lemmas.List.Elements.{All-nil}
 use Rattle.performer_kit.specs.declared.commands.Command.TheVariants.{Pen}
 use Rattle.kumir_values.specs.declared.run_end.EndKind.{EndKind}
 use Rattle.kumir_meaning.specs.Runs.{Act, Printed, Sent}
-use Rattle.kumir_meaning.specs.Meaning.{usual}
+use Rattle.kumir_meaning.specs.Runs.{usual}
 use Rattle.stack_code.specs.declared.instruction.CallPlace.{CallPlace}
 use Rattle.stack_code.specs.declared.instruction.CodeLine.{CodeLine}
 use Rattle.stack_code.specs.declared.instruction.Instruction.TheVariants as code

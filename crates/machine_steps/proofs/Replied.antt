@@ -7,7 +7,7 @@ use Rattle.kumir_values.specs.declared.value.Value.{Value}
 use Rattle.kumir_values.specs.declared.run_end.EndKind.TheVariants as end
 use Rattle.kumir_meaning.specs.Runs.{Act, Sent, Trace, only}
 use Rattle.kumir_meaning.specs.Runs as state
-use Rattle.kumir_meaning.specs.Meaning.{usual, reply_value, is_wall}
+use Rattle.kumir_meaning.specs.Runs.{usual, reply_value, is_wall}
 use Rattle.stack_code.specs.declared.instruction.CommandShape.TheVariants as shape
 use Rattle.stack_code.specs.declared.instruction.Instruction.TheVariants as code
 use Rattle.stack_code.specs.declared.unit.CodeUnit.{CodeUnit}

@@ -1,7 +1,7 @@
 -- One turn of a loop.
 use Rattle.std.proofs.Common.{◌≡◌, ◌≢◌, ℕ, zero, suc, ◌+◌, ◌-◌, Bool, true, false, Option, Some, None, refl, sym, ap, ◌∙◌, subst, arith}
 use Rattle.std.specs.Prelude.{ℤ, pos, negsuc, ◌+ℤ◌, ◌≤ℤ◌, int_lt, cond, if◌then◌else◌}
-use Rattle.kumir_meaning.specs.Meaning.{past}
+use Rattle.kumir_meaning.specs.Loops.{past}
 use Rattle.stack_code.specs.CodeState.{Slot, Plain, Left, Numbers, Slots, State, cell_in, with_slot, goes_to}
 use Rattle.stack_code.specs.Instructions.{set_variable, next_turn}
 use Rattle.machine_steps.specs.Loops.{IsNear, turned}

@@ -4,7 +4,7 @@ use Rattle.performer_kit.specs.declared.commands.Command.TheVariants.{Pen}
 use Rattle.performer_kit.specs.declared.commands.Reply.{Reply}
 use Rattle.kumir_values.specs.declared.value.Value.{Value}
 use Rattle.kumir_meaning.specs.Runs.{Printed, Sent, RunState, Going, only, end_of}
-use Rattle.kumir_meaning.specs.Meaning.{usual}
+use Rattle.kumir_meaning.specs.Runs.{usual}
 use Rattle.stack_code.specs.declared.unit.CodeUnit.{CodeUnit}
 use Rattle.stack_code.specs.CodeState.{State}
 use Rattle.stack_code.specs.Instructions.{step}

@@ -1,6 +1,7 @@
 -- How what a machine holds stands for a moment of running code.
 use Rattle.std.specs.Prelude.{◌≡◌, ℕ, List, length, get_or, slice_get, Option, Some, None}
-use Rattle.kumir_meaning.specs.Operations as operations
+use Rattle.kumir_names.specs.declared.built_in.BuiltIn as operations
+use Rattle.kumir_names.specs.declared.built_in.BuiltIn.TheVariants as operation
 use Rattle.machine_steps.specs.declared.values.BuiltIn.{BuiltIn}
 use Rattle.machine_steps.specs.declared.values.BuiltIn.TheVariants as call
 use Rattle.kumir_values.specs.Tables.{Grid, value_at}
@@ -16,11 +17,11 @@ use Rattle.stack_code.specs.CodeState.{Slot, Plain, Left, Numbers, Slots, Frame,
 
 -- the built-in algorithm of an instruction
 abbrev pub built_in_of : BuiltIn → operations.BuiltIn
-built_in_of call.Div = operations.Div
-built_in_of call.Mod = operations.Mod
-built_in_of call.Abs = operations.Abs
-built_in_of call.Min = operations.Min
-built_in_of call.Max = operations.Max
+built_in_of call.Div = operation.Div
+built_in_of call.Mod = operation.Mod
+built_in_of call.Abs = operation.Iabs
+built_in_of call.Min = operation.Imin
+built_in_of call.Max = operation.Imax
 
 -- a table as a finite map
 abbrev pub table_map : Grid → store.TableMap

@@ -5,7 +5,7 @@ use Rattle.performer_kit.specs.declared.commands.Reply.{Reply}
 use Rattle.kumir_values.specs.declared.value.Value.{Value}
 use Rattle.kumir_values.specs.declared.run_end.EndKind.{EndKind}
 use Rattle.kumir_meaning.specs.Runs.{Act, Sent, RunState, Going, end_of}
-use Rattle.kumir_meaning.specs.Meaning.{usual}
+use Rattle.kumir_meaning.specs.Runs.{usual}
 use Rattle.stack_code.specs.declared.unit.CodeUnit.{CodeUnit}
 use Rattle.stack_code.specs.CodeRuns.{exec}
 use Rattle.machine_steps.specs.declared.running.Running.{Running}

@@ -1,7 +1,8 @@
 //! Entering an algorithm: its parameters, and the call that waits.
 ghost use Rattle.std.specs.Prelude.{◌≡◌, ◌<◌, ◌≤◌, length, reverse, take, All, IfOk, if◌then◌else◌};
 ghost use Rattle.kumir_meaning.specs.Store as store;
-ghost use Rattle.kumir_meaning.specs.Meaning.{usual, table_for};
+ghost use Rattle.kumir_meaning.specs.Algorithms.{table_for};
+ghost use Rattle.kumir_meaning.specs.Runs.{usual};
 ghost use Rattle.stack_code.specs.CodeState.{Plain, top, rest, with_slot, no_slots};
 ghost use Rattle.stack_code.specs.Instructions.{takes_value, values_taken, table_of, receives_table, receives, receives_all};
 ghost use Rattle.machine_steps.specs.Moments.{table_map, slots_of};

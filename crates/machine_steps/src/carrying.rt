@@ -1,6 +1,6 @@
 //! One instruction of the algorithm that runs.
 ghost use Rattle.std.specs.Prelude.{◌≡◌, ◌<◌, ◌+◌, ◌^◌, List, length, true, IfOk};
-ghost use Rattle.kumir_meaning.specs.Meaning.{usual};
+ghost use Rattle.kumir_meaning.specs.Runs.{usual};
 ghost use Rattle.stack_code.specs.Instructions.{acts};
 ghost use Rattle.stack_code.specs.declared.unit.CodeUnit.{CodeUnit};
 ghost use Rattle.machine_steps.specs.Moments.{state_of};

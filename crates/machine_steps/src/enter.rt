@@ -1,6 +1,6 @@
 //! Calls and returns: the algorithms that are entered one inside another.
 ghost use Rattle.std.specs.Prelude.{◌≡◌, ◌<◌, ◌-◌, ◌+◌, ◌^◌, ◌++◌, ◌∷◌, [], length, All, IfOk, IfNone, OnOk, MatchOption};
-ghost use Rattle.kumir_meaning.specs.Meaning.{usual};
+ghost use Rattle.kumir_meaning.specs.Runs.{usual};
 ghost use Rattle.stack_code.specs.Instructions.{unit_at, calls, copied_out, acts};
 ghost use Rattle.stack_code.specs.declared.instruction.Instruction.TheVariants as code;
 ghost use Rattle.machine_steps.specs.Acting.{Acts, ended};

@@ -1,6 +1,7 @@
 //! Instructions of loops.
 ghost use Rattle.std.specs.Prelude.{◌≡◌, ◌<◌, ◌+◌, ◌^◌, ◌+ℤ◌, [], length, true, false, Some, None, IfOk, IfSome};
-ghost use Rattle.kumir_meaning.specs.Meaning.{usual, past};
+ghost use Rattle.kumir_meaning.specs.Loops.{past};
+ghost use Rattle.kumir_meaning.specs.Runs.{usual};
 ghost use Rattle.stack_code.specs.Instructions.{acts, set_variable};
 ghost use Rattle.stack_code.specs.declared.instruction.Instruction.TheVariants as code;
 ghost use Rattle.machine_steps.specs.Moments.{state_of, slots_of};

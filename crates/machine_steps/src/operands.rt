@@ -1,7 +1,7 @@
 //! The operands of an algorithm that runs.
 ghost use Rattle.std.specs.Prelude.{◌≡◌, [], ◌∷◌, length, map, reverse, take, drop, OnOk, IfOk, MatchOption};
 ghost use Rattle.stack_code.specs.CodeState.{top, rest, numbers, paired};
-ghost use Rattle.kumir_meaning.specs.Operations.{number_of};
+ghost use Rattle.kumir_meaning.specs.Operators.{number_of};
 
 use crate::values::number_in;
 use km_base::Memory;

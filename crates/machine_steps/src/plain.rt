@@ -1,10 +1,10 @@
 //! Instructions on the operands and slots of the algorithm that runs.
 ghost use Rattle.std.specs.Prelude.{◌≡◌, ◌<◌, ◌+◌, ◌^◌, ◌∷◌, [], List, Ok, not, IfOk, reverse, take, drop, length};
-ghost use Rattle.kumir_meaning.specs.Operations.{combined, negated, applied, is_yes};
+ghost use Rattle.kumir_meaning.specs.Operators.{combined, negated, applied, is_yes};
 ghost use Rattle.stack_code.specs.CodeState.{top, rest, next};
 ghost use Rattle.stack_code.specs.Instructions.{gives, operates, applies, acts, Go};
 ghost use Rattle.stack_code.specs.declared.instruction.Instruction.TheVariants as code;
-ghost use Rattle.kumir_meaning.specs.Meaning.{usual};
+ghost use Rattle.kumir_meaning.specs.Runs.{usual};
 ghost use Rattle.kumir_values.specs.declared.value.Value.TheVariants as Value;
 ghost use Rattle.machine_steps.specs.Moments.{state_of, slots_of};
 ghost use Rattle.machine_steps.specs.Acting.{Carries};

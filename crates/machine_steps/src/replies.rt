@@ -1,6 +1,6 @@
 //! The reply to a command of the Robot.
 ghost use Rattle.std.specs.Prelude.{◌≡◌, ◌∷◌, ◌+◌, ◌<◌, ◌^◌, true, false, IfOk, IfNone, OnOk};
-ghost use Rattle.kumir_meaning.specs.Meaning.{reply_value, is_wall};
+ghost use Rattle.kumir_meaning.specs.Runs.{reply_value, is_wall};
 ghost use Rattle.stack_code.specs.Instructions.{is_test};
 ghost use Rattle.machine_steps.specs.Frames.{AllValid, IsEntered};
 ghost use Rattle.machine_steps.specs.Stages.{moment_of, IsStage, Asks};

@@ -1,7 +1,7 @@
 //! Instructions that the outside sees.
 ghost use Rattle.std.specs.Prelude.{◌≡◌, ◌<◌, ◌+◌, ◌^◌, List, length, map, true, IfOk};
-ghost use Rattle.kumir_meaning.specs.Operations.{number_of};
-ghost use Rattle.kumir_meaning.specs.Meaning.{usual, pen_command};
+ghost use Rattle.kumir_meaning.specs.Operators.{number_of};
+ghost use Rattle.kumir_meaning.specs.Runs.{usual, pen_command};
 ghost use Rattle.stack_code.specs.Instructions.{acts, numbers_asked};
 ghost use Rattle.stack_code.specs.declared.unit.CodeUnit.{CodeUnit};
 ghost use Rattle.stack_code.specs.declared.instruction.Instruction.TheVariants as code;

@@ -1,6 +1,6 @@
 //! Instructions on tables.
 ghost use Rattle.std.specs.Prelude.{◌≡◌, ◌<◌, ◌+◌, ◌*◌, ◌^◌, [], length, IfOk};
-ghost use Rattle.kumir_meaning.specs.Meaning.{usual};
+ghost use Rattle.kumir_meaning.specs.Runs.{usual};
 ghost use Rattle.kumir_meaning.specs.Store.{element, checked, fitted, with_element, elements_in};
 ghost use Rattle.stack_code.specs.CodeState.{Plain, cell_in, paired, next, next_with};
 ghost use Rattle.stack_code.specs.Instructions.{acts, if_fine};

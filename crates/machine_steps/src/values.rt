@@ -1,6 +1,6 @@
 //! Operators and built-in algorithms on values.
 ghost use Rattle.std.specs.Prelude.{◌≡◌, ◌∷◌, [], not};
-ghost use Rattle.kumir_meaning.specs.Operations.{number_of, turns_of, is_yes, as_value, same_value, below, combined, negated, first_number, second_number, applied};
+ghost use Rattle.kumir_meaning.specs.Operators.{number_of, turns_of, is_yes, as_value, same_value, below, combined, negated, first_number, second_number, applied};
 ghost use Rattle.machine_steps.specs.Moments.{built_in_of};
 
 use kumir_tree::Op;

@@ -6,7 +6,7 @@ use Rattle.kumir_values.specs.declared.run_end.RunFault.{RunFault}
 use Rattle.kumir_values.specs.declared.run_end.RunFault.TheVariants.{NoInput}
 use Rattle.kumir_meaning.specs.Runs.{Act, Sent, Trace, only, after_act, input_as}
 use Rattle.kumir_meaning.specs.Runs as state
-use Rattle.kumir_meaning.specs.Meaning.{Allowed, usual}
+use Rattle.kumir_meaning.specs.Runs.{Allowed, usual}
 use Rattle.stack_code.specs.declared.unit.CodeUnit.{CodeUnit}
 use Rattle.stack_code.specs.CodeState.{State, no_slots}
 use Rattle.stack_code.specs.Instructions.{After, On, Over, Event, Go, Tick, Does, Asks, Takes, Halt, step}

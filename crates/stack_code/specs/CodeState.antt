@@ -3,7 +3,7 @@ use Rattle.std.specs.Prelude.{ℕ, ◌+◌, false, List, [], ◌∷◌, map, rev
 use Rattle.kumir_values.specs.declared.value.Value.{Value}
 use Rattle.kumir_values.specs.declared.value.Value.TheVariants.{Truth}
 use Rattle.kumir_values.specs.declared.bounds.Bound.{Bound}
-use Rattle.kumir_meaning.specs.Operations.{number_of}
+use Rattle.kumir_meaning.specs.Operators.{number_of}
 use Rattle.kumir_meaning.specs.Store.{Cell, Empty}
 use Rattle.stack_code.specs.declared.instruction.CallPlace.{CallPlace}
 

@@ -19,7 +19,7 @@ use Rattle.stack_code.specs.declared.instruction.Instruction.TheVariants.{Push, 
 use Rattle.stack_code.specs.declared.instruction.CodeLine.{CodeLine}
 use Rattle.stack_code.specs.declared.unit.ParamSlot.{ParamSlot}
 use Rattle.stack_code.specs.declared.unit.CodeUnit.{CodeUnit}
-use Rattle.kumir_meaning.specs.Meaning.{usual}
+use Rattle.kumir_meaning.specs.Runs.{usual}
 use Rattle.stack_code.specs.CodeRuns.{exec, start}
 
 abbrev pub on : ℕ → List Instruction → List CodeLine → List CodeLine

@@ -21,9 +21,13 @@ use Rattle.kumir_values.specs.declared.run_end.RunFault.TheVariants.{Unset, Step
 use Rattle.kumir_values.specs.Bounds.{all_ordered, elements}
 use Rattle.kumir_meaning.specs.Runs.{Act, Printed, Sent, RunState}
 use Rattle.kumir_meaning.specs.Runs as state
-use Rattle.kumir_meaning.specs.Operations.{number_of, is_yes, turns_of, text_of, combined, negated, BuiltIn, Div as DivCall, Mod as ModCall, Abs as AbsCall, Min as MinCall, Max as MaxCall, applied}
+use Rattle.kumir_names.specs.declared.built_in.BuiltIn.{BuiltIn}
+use Rattle.kumir_names.specs.declared.built_in.BuiltIn.TheVariants.{Div as DivCall, Mod as ModCall, Iabs as AbsCall, Imin as MinCall, Imax as MaxCall}
+use Rattle.kumir_meaning.specs.Operators.{number_of, is_yes, turns_of, text_of, combined, negated, applied}
 use Rattle.kumir_meaning.specs.Store.{Cell, Empty, Has, Holds, cell_of, value_in, read, element, checked, given_back, with_element, elements_in, without_values, fitted}
-use Rattle.kumir_meaning.specs.Meaning.{reply_value, is_wall, pen_command, past, table_for, Allowed}
+use Rattle.kumir_meaning.specs.Loops.{past}
+use Rattle.kumir_meaning.specs.Algorithms.{table_for}
+use Rattle.kumir_meaning.specs.Runs.{reply_value, is_wall, pen_command, Allowed}
 use Rattle.stack_code.specs.declared.instruction.CallPlace.{CallPlace}
 use Rattle.stack_code.specs.declared.instruction.CallPlace.TheVariants as place
 use Rattle.stack_code.specs.declared.instruction.CommandShape.{CommandShape}

@@ -1,5 +1,5 @@
 use Rattle.std.proofs.Common.{◌≡◌, drop}
-use Rattle.kumir_meaning.specs.Meaning.{usual}
+use Rattle.kumir_meaning.specs.Runs.{usual}
 use Rattle.stack_code.specs.Instructions.{receives_all}
 use Rattle.machine_steps.specs.Moments.{slots_of}
 use Rattle.machine_steps.specs.Calls.{IsSameBut}

@@ -1,5 +1,5 @@
 use Rattle.std.proofs.Common.{List, IfOk, sym, subst}
-use Rattle.kumir_meaning.specs.Meaning.{usual}
+use Rattle.kumir_meaning.specs.Runs.{usual}
 use Rattle.stack_code.specs.Instructions.{acts}
 use Rattle.stack_code.specs.declared.unit.CodeUnit.{CodeUnit}
 use Rattle.machine_steps.specs.Moments.{state_of}

@@ -1,5 +1,5 @@
 use Rattle.std.proofs.Common.{◌∙◌, ap}
-use Rattle.kumir_meaning.specs.Operations.{applied}
+use Rattle.kumir_meaning.specs.Operators.{applied}
 use Rattle.machine_steps.specs.Moments.{built_in_of}
 use Rattle.machine_steps.proofs.plain.apply_top.Goals as goal
 

@@ -1,6 +1,6 @@
 use Rattle.std.proofs.Common.{refl, sym, ap, ◌∙◌, subst, List, []}
 use Rattle.std.specs.Prelude.{slice_get}
-use Rattle.kumir_meaning.specs.Meaning.{usual}
+use Rattle.kumir_meaning.specs.Runs.{usual}
 use Rattle.stack_code.specs.CodeState.{Frame}
 use Rattle.stack_code.specs.declared.unit.CodeUnit.{CodeUnit}
 use Rattle.stack_code.specs.Instructions.{unit_at, acts}

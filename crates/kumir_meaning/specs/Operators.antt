@@ -1,11 +1,12 @@
--- The operators and built-in algorithms on values. Where the types do not fit the answer means nothing.
+-- The operators and built-in algorithms on values. Where the types do not fit the answer means nothing. docs/LANGUAGE.md, "Values".
 use Rattle.std.specs.Prelude.{ℕ, Bool, true, false, not, List, [], ◌∷◌, codes, ℤ, pos, negsuc, ◌+ℤ◌, ◌-ℤ◌, ◌*ℤ◌, neg_ℤ, unsigned_abs, int_lt, Option, Some, None, Result, Ok, Err, if◌then◌else◌}
 use Rattle.std.specs.Int.{int_min, int_max}
 use Rattle.std.specs.Ordering.{int_eq}
 use Rattle.std.specs.Fmt.{signed_decimal}
 use Rattle.kumir_tree.specs.declared.kind.Op.{Op}
 use Rattle.kumir_tree.specs.declared.kind.Op.TheVariants.{Or, And, Equal, NotEqual, Less, Greater, LessOrEqual, GreaterOrEqual, Plus, Minus, Times, Power}
-use Rattle.performer_kit.specs.Names.{first_named}
+use Rattle.kumir_names.specs.declared.built_in.BuiltIn.{BuiltIn}
+use Rattle.kumir_names.specs.declared.built_in.BuiltIn.TheVariants.{Div, Mod, Iabs, Imin, Imax}
 use Rattle.kumir_values.specs.declared.value.Value.{Value}
 use Rattle.kumir_values.specs.declared.value.Value.TheVariants.{Whole, Truth}
 use Rattle.kumir_values.specs.declared.run_end.RunFault.{RunFault}
@@ -79,26 +80,10 @@ decided Minus a = None
 decided Times a = None
 decided Power a = None
 
+abbrev pub negated : Value → Result Value RunFault
+negated v = as_value (ranged (neg_ℤ (number_of v)))
+
 -- ---- built-in algorithms
-pub data BuiltIn : Type 0 where
-  Div : BuiltIn
-  Mod : BuiltIn
-  Abs : BuiltIn
-  Min : BuiltIn
-  Max : BuiltIn
-
-abbrev pub built_in_name : BuiltIn → List ℕ
-built_in_name Div = codes "div"
-built_in_name Mod = codes "mod"
-built_in_name Abs = codes "iabs"
-built_in_name Min = codes "imin"
-built_in_name Max = codes "imax"
-
-abbrev pub built_ins : List BuiltIn
-built_ins = Div ∷ Mod ∷ Abs ∷ Min ∷ Max ∷ []
-
-abbrev pub built_in_named : List ℕ → Option BuiltIn
-built_in_named text = first_named built_in_name built_ins text
 
 -- the n-th of the arguments as a number
 abbrev pub first_number : List Value → ℤ
@@ -112,9 +97,6 @@ second_number (v ∷ vs) = first_number vs
 abbrev pub applied : BuiltIn → List Value → Result Value RunFault
 applied Div vs = as_value (divided (first_number vs) (second_number vs))
 applied Mod vs = as_value (remaindered (first_number vs) (second_number vs))
-applied Abs vs = as_value (ranged (pos (unsigned_abs (first_number vs))))
-applied Min vs = as_value (ranged (int_min (first_number vs) (second_number vs)))
-applied Max vs = as_value (ranged (int_max (first_number vs) (second_number vs)))
-
-abbrev pub negated : Value → Result Value RunFault
-negated v = as_value (ranged (neg_ℤ (number_of v)))
+applied Iabs vs = as_value (ranged (pos (unsigned_abs (first_number vs))))
+applied Imin vs = as_value (ranged (int_min (first_number vs) (second_number vs)))
+applied Imax vs = as_value (ranged (int_max (first_number vs) (second_number vs)))
