@@ -10,7 +10,7 @@ use Rattle.kumir_values.specs.declared.run_end.EndKind.{EndKind}
 use Rattle.kumir_values.specs.declared.run_end.EndKind.TheVariants as end_kind
 use Rattle.kumir_meaning.specs.Runs.{Act, Printed, Sent, RunState, Trace, only, after_act, end_of}
 use Rattle.kumir_meaning.specs.Runs as state
-use Rattle.kumir_meaning.specs.Meaning.{usual}
+use Rattle.kumir_meaning.specs.Runs.{usual}
 use Rattle.stack_code.specs.declared.unit.CodeUnit.{CodeUnit}
 use Rattle.stack_code.specs.Instructions.{acts_at}
 use Rattle.stack_code.specs.CodeRuns.{after_some, meet, exec, start, CodeRun, Begins}

@@ -11,7 +11,7 @@ use Rattle.kumir_values.specs.declared.run_end.RunFault.TheVariants.{NoInput}
 use Rattle.kumir_meaning.specs.Runs.{Act, Sent, RunState, Trace, only, after_act, input_as}
 use Rattle.kumir_meaning.specs.Runs as state
 use Rattle.kumir_meaning.specs.Store.{given_back}
-use Rattle.kumir_meaning.specs.Meaning.{usual}
+use Rattle.kumir_meaning.specs.Runs.{usual}
 use Rattle.stack_code.specs.declared.instruction.CallPlace.{CallPlace}
 use Rattle.stack_code.specs.declared.instruction.CodeLine.{CodeLine}
 use Rattle.stack_code.specs.declared.instruction.Instruction.{Instruction}

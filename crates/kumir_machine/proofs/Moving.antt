@@ -12,11 +12,12 @@ use Rattle.kumir_values.specs.declared.value.Value.{Value}
 use Rattle.kumir_values.specs.declared.bounds.Bound.{Bound}
 use Rattle.kumir_values.specs.declared.run_end.RunFault.{RunFault}
 use Rattle.kumir_values.specs.Bounds.{all_ordered, elements}
-use Rattle.kumir_meaning.specs.Operations.{number_of, is_yes, combined}
+use Rattle.kumir_meaning.specs.Operators.{number_of, is_yes, combined}
 use Rattle.kumir_meaning.specs.Store.{elements_in}
 use Rattle.kumir_meaning.specs.Runs.{Act, RunState}
 use Rattle.kumir_meaning.specs.Runs as state
-use Rattle.kumir_meaning.specs.Meaning.{usual, past, reply_value, is_wall}
+use Rattle.kumir_meaning.specs.Loops.{past}
+use Rattle.kumir_meaning.specs.Runs.{usual, reply_value, is_wall}
 use Rattle.stack_code.specs.declared.instruction.CommandShape.TheVariants.{Robot, Pen}
 use Rattle.stack_code.specs.declared.instruction.Instruction.{Instruction}
 use Rattle.stack_code.specs.declared.instruction.Instruction.TheVariants.{Push, Drop, Load, Store, Clear, Elem, PutElem, Probe, Make, Fit, Add, Sub, Mul, Pow, Neg, Div, Mod, Abs, Min, Max, Eq, Ne, Lt, Le, Gt, Ge, EqTruth, NeTruth, Not, Jump, JumpNo, Step, Times, Turns, Next, Out, OutText, OutLine, Input, Assert, Quit, Ask, Call, Return}

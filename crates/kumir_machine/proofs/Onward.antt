@@ -8,7 +8,7 @@ use Rattle.performer_kit.specs.declared.commands.Reply.{Reply}
 use Rattle.kumir_values.specs.declared.run_end.EndKind.TheVariants as end_kind
 use Rattle.kumir_meaning.specs.Runs.{Act, Printed, Sent, RunState, Trace, end_of}
 use Rattle.kumir_meaning.specs.Runs as state
-use Rattle.kumir_meaning.specs.Meaning.{usual}
+use Rattle.kumir_meaning.specs.Runs.{usual}
 use Rattle.stack_code.specs.CodeRuns.{exec, start}
 use Rattle.machine_steps.specs.declared.stage.Stage.{Stage}
 use Rattle.machine_steps.specs.declared.stage.Question.{Question}

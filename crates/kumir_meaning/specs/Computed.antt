@@ -15,8 +15,8 @@ use Rattle.kumir_values.specs.declared.value.Value.TheVariants as value
 use Rattle.kumir_values.specs.declared.run_end.RunFault.TheVariants as fault
 use Rattle.kumir_meaning.specs.Runs.{Act, Printed, Sent, RunState}
 use Rattle.kumir_meaning.specs.Runs as state
-use Rattle.kumir_meaning.specs.Callees.{Program}
-use Rattle.kumir_meaning.specs.Meaning.{run, run_within}
+use Rattle.kumir_meaning.specs.Program.{Program}
+use Rattle.kumir_meaning.specs.Algorithms.{run, run_within}
 use Rattle.kumir_meaning.specs.Samples.{num, minus, call, counting, idle, repeating, endless, spinning, printing, adding, factorials, squaring, swapping, descending, wanting, quitting, valueless, ordered, hiding, reading, passing, unmade, remaking, selecting, painting, drawing}
 
 abbrev pub number : ℤ → Act

@@ -1,7 +1,10 @@
-pub mod Callees
+pub mod Program
+pub mod Operators
 pub mod Store
-pub mod Operations
 pub mod Runs
-pub mod Meaning
+pub mod Expressions
+pub mod Loops
+pub mod Statements
+pub mod Algorithms
 pub mod Samples
 pub mod Computed

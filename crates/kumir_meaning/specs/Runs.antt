@@ -1,9 +1,14 @@
--- What a run does, how it stands, and what it takes. docs/LANGUAGE.md, "Ends of a run".
-use Rattle.std.specs.Prelude.{ℕ, zero, suc, Bool, true, false, List, [], ◌∷◌, Option, Some, None, Result, Ok, Err}
+-- What a run does, how it stands, what it takes from outside, and what it may use. docs/LANGUAGE.md, "Ends of a run" and "Steps".
+use Rattle.std.specs.Prelude.{◌≡◌, ℕ, zero, suc, Bool, true, false, List, [], ◌∷◌, ◌++◌, ℤ, pos, Option, Some, None, Result, Ok, Err}
 use Rattle.kumir_tree.specs.declared.kind.Kind.{Kind}
 use Rattle.kumir_tree.specs.declared.kind.Kind.TheVariants as kind
 use Rattle.performer_kit.specs.declared.commands.Command.{Command}
+use Rattle.performer_kit.specs.declared.commands.PenShape.{PenShape}
+use Rattle.performer_kit.specs.declared.commands.PenShape.TheVariants as shape
+use Rattle.performer_kit.specs.declared.commands.PenCommand.{PenCommand}
+use Rattle.performer_kit.specs.declared.commands.PenCommand.TheVariants.{Raise, Lower, To, By}
 use Rattle.performer_kit.specs.declared.commands.Reply.{Reply}
+use Rattle.performer_kit.specs.declared.commands.Reply.TheVariants as reply
 use Rattle.kumir_values.specs.declared.value.Value.{Value}
 use Rattle.kumir_values.specs.declared.value.Value.TheVariants.{Whole, Truth}
 use Rattle.kumir_values.specs.declared.run_end.RunFault.{RunFault}
@@ -43,7 +48,7 @@ end_of (Assert line) = Some (end.Assert line)
 end_of (Fault line fault) = Some (end.Fault line fault)
 end_of (Wall line) = Some (end.Wall line)
 
--- the rest of a run from a moment on, by the steps, the inputs and the Robot's replies that are left
+-- the rest of a run from a state on, by the steps, the inputs and the Robot's replies that are left
 abbrev pub Rest : Type 0
 Rest = ℕ → List Value → List Reply → Trace
 
@@ -58,9 +63,22 @@ abbrev pub stops : RunState → Rest
 stops state steps inputs replies = only state
 
 -- goes on with what was got, or ends with its fault on this line
-abbrev pub given : {T : Type 0} → Result T RunFault → ℕ → (T → Rest) → Rest
-given (Ok t) line next = next t
-given (Err fault) line next = stops (Fault line fault)
+abbrev pub unless_fault : {T : Type 0} → Result T RunFault → ℕ → (T → Rest) → Rest
+unless_fault (Ok t) line next = next t
+unless_fault (Err fault) line next = stops (Fault line fault)
+
+-- how many algorithms may be entered at one time, and how many table elements there may be
+pub record Allowed : Type 0 where
+  pub depth : ℕ
+  pub room : ℕ
+
+-- what the language allows
+abbrev pub usual : Allowed
+usual = record { depth = 1000; room = 1000000 }
+
+-- the first list is the beginning of the second
+abbrev pub IsPrefix : {A : Type 0} → List A → List A → Type 0
+IsPrefix {A} xs ys = (more : List A) × (ys ≡ xs ++ more)
 
 -- ---- what the outside sees and gives; what goes on takes what the run holds, of any type
 
@@ -88,9 +106,41 @@ input_as kind.Truth (Truth b) = Ok (Truth b)
 -- the next input
 abbrev pub takes : {S : Type 0} → Kind → ℕ → (Value → S → Rest) → S → Rest
 takes kind line next s steps [] replies = only (Fault line NoInput)
-takes kind line next s steps (v ∷ inputs) replies = given (input_as kind v) line (λ w. next w s) steps inputs replies
+takes kind line next s steps (v ∷ inputs) replies = unless_fault (input_as kind v) line (λ w. next w s) steps inputs replies
 
 -- one of two ways to go on
 abbrev pub choose : {S : Type 0} → Bool → (S → Rest) → (S → Rest) → S → Rest
 choose true first second s = first s
 choose false first second s = second s
+
+-- ---- commands and their replies
+
+-- a test of the Robot has the value of its reply
+abbrev pub reply_value : Reply → Value
+reply_value reply.Yes = Truth true
+reply_value reply.No = Truth false
+reply_value reply.Done = Truth false
+reply_value reply.Wall = Truth false
+reply_value (reply.Drawn segment) = Truth false
+
+abbrev pub is_wall : Reply → Bool
+is_wall reply.Wall = true
+is_wall reply.Done = false
+is_wall reply.Yes = false
+is_wall reply.No = false
+is_wall (reply.Drawn segment) = false
+
+-- a command of the Draughtsman with its numbers
+abbrev pub first_of_all : List ℤ → ℤ
+first_of_all [] = pos 0
+first_of_all (z ∷ zs) = z
+
+abbrev pub second_of_all : List ℤ → ℤ
+second_of_all [] = pos 0
+second_of_all (z ∷ zs) = first_of_all zs
+
+abbrev pub pen_command : PenShape → List ℤ → PenCommand
+pen_command shape.Raise zs = Raise
+pen_command shape.Lower zs = Lower
+pen_command shape.To zs = To (first_of_all zs) (second_of_all zs)
+pen_command shape.By zs = By (first_of_all zs) (second_of_all zs)

@@ -5,11 +5,11 @@ use Rattle.kumir_tree.specs.declared.kind.Kind.TheVariants as kind
 use Rattle.kumir_tree.specs.declared.kind.Mode.{Mode}
 use Rattle.kumir_tree.specs.declared.kind.Mode.TheVariants.{Arg, Res, ArgRes}
 use Rattle.kumir_tree.specs.declared.kind.Op.TheVariants as op
-use Rattle.kumir_tree.specs.Tree.{Tree, Number, Truth, Named, Element, Call, Plus, Minus, Binary, no_trees, ◌then◌}
+use Rattle.kumir_tree.specs.Tree.{Tree, Number, Truth, Named, Element, Call, Minus, Binary, no_trees, ◌then◌}
 use Rattle.kumir_tree.specs.Seen.{listed}
 use Rattle.kumir_tree.specs.Part.{Place, ToAnswer, ToScalar, ToElement, Shown, ShowValue, ShowText, ShowLine, Scalars, Tables, Formal}
 use Rattle.kumir_tree.specs.Program.{Act, Stands, Declare, Assign, Invoke, Times, While, Count, Forever, Until, Choose, Select, Input, Output, Leave, Quit, Block, done, ◌next◌, no_arms, arm}
-use Rattle.kumir_meaning.specs.Callees.{Placed, Program}
+use Rattle.kumir_meaning.specs.Program.{Placed, Program}
 
 -- ---- how these programs are written down
 

@@ -1,4 +1,4 @@
--- What an algorithm holds while it runs: its variables, and the table elements in use. docs/LANGUAGE.md, "Names while a program runs".
+-- What an algorithm holds while it runs: its variables, and the table elements in use. docs/LANGUAGE.md, "Meaning", "Names".
 use Rattle.std.specs.Prelude.{ℕ, ◌+◌, ◌-◌, Bool, true, false, ◌&&◌, List, [], ◌∷◌, bytes_eq, ℤ, nat_le, Option, Some, None, Result, Ok, Err, if◌then◌else◌}
 use Rattle.std.specs.Ordering.{int_eq}
 use Rattle.kumir_tree.specs.declared.kind.Kind.{Kind}
@@ -9,16 +9,16 @@ use Rattle.kumir_values.specs.declared.run_end.RunFault.TheVariants.{Unset, Inde
 use Rattle.kumir_values.specs.Bounds.{all_ordered, elements, inside}
 use Rattle.kumir_values.specs.Tables.{no_value, changed, found_value, is_of_kind}
 
--- a variable of an algorithm: `знач`, or a name
-pub data Variable : Type 0 where
-  TheAnswer : Variable
-  Local : List ℕ → Variable
+-- what an algorithm holds has a name: `знач`, or that of a local one
+pub data CellName : Type 0 where
+  TheAnswer : CellName
+  Local : List ℕ → CellName
 
-abbrev pub same_variable : Variable → Variable → Bool
-same_variable TheAnswer TheAnswer = true
-same_variable TheAnswer (Local y) = false
-same_variable (Local x) TheAnswer = false
-same_variable (Local x) (Local y) = bytes_eq x y
+abbrev pub same_cell_name : CellName → CellName → Bool
+same_cell_name TheAnswer TheAnswer = true
+same_cell_name TheAnswer (Local y) = false
+same_cell_name (Local x) TheAnswer = false
+same_cell_name (Local x) (Local y) = bytes_eq x y
 
 -- a table: a finite map from lists of indexes to values, beside its kind and bounds
 pub record TableMap : Type 0 where
@@ -34,11 +34,11 @@ pub data Cell : Type 0 where
 
 -- the variables, and how many table elements there are in all algorithms that are entered
 pub record Store : Type 0 where
-  pub cells : Variable → Cell
+  pub cells : CellName → Cell
   pub used : ℕ
 
-abbrev pub with_cell : Store → Variable → Cell → Store
-with_cell s x c = record { cells = λ y. if same_variable x y then c else s.cells y; used = s.used }
+abbrev pub with_cell : Store → CellName → Cell → Store
+with_cell s x c = record { cells = λ y. if same_cell_name x y then c else s.cells y; used = s.used }
 
 abbrev pub cell_of : Option Value → Cell
 cell_of None = Empty
@@ -75,7 +75,7 @@ given_back (Holds t) = Err NoValue
 
 -- ---- places: a variable, or an element of a table with its indexes
 pub data Spot : Type 0 where
-  AtVariable : Variable → Spot
+  AtVariable : CellName → Spot
   AtElement : List ℕ → List ℤ → Spot
 
 -- a place at which something can stand
@@ -114,15 +114,19 @@ elements_in (Holds t) = elements t.bounds
 abbrev pub without_values : Kind → List Bound → Cell
 without_values kind bounds = Holds (record { kind = kind; bounds = bounds; values = no_value })
 
--- a store in which so many elements are in use, where there is room for them
-abbrev pub in_room : ℕ → ℕ → Store → Result Store RunFault
-in_room room used s = if nat_le used room then Ok (record { cells = s.cells; used = used }) else Err Elements
+-- the rule of room: how many elements there may be, how many are in use, and how many are to come
+abbrev pub has_room : ℕ → ℕ → ℕ → Bool
+has_room room used more = nat_le (used + more) room
+
+-- a store in which more elements are in use, where there is room for them
+abbrev pub in_room : ℕ → ℕ → ℕ → Store → Result Store RunFault
+in_room room used more s = if has_room room used more then Ok (record { cells = s.cells; used = used + more }) else Err Elements
 
 -- a table made anew: `bounds` first, then its former elements no longer count, then `elements`
-abbrev pub made : ℕ → Kind → List Bound → Variable → Store → Result Store RunFault
+abbrev pub made : ℕ → Kind → List Bound → CellName → Store → Result Store RunFault
 made room kind bounds x s =
     if all_ordered bounds
-    then in_room room (s.used - elements_in (s.cells x) + elements bounds) (with_cell s x (without_values kind bounds))
+    then in_room room (s.used - elements_in (s.cells x)) (elements bounds) (with_cell s x (without_values kind bounds))
     else Err Bounds
 
 abbrev pub same_bounds : List Bound → List Bound → Bool

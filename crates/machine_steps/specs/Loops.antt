@@ -1,6 +1,6 @@
 -- Loops: the numbers of their turns, and one turn.
 use Rattle.std.specs.Prelude.{ℕ, zero, suc, ℤ, pos, negsuc, ◌+ℤ◌, ◌≤ℤ◌, ◌<ℤ◌, Option, Some, None, if◌then◌else◌}
-use Rattle.kumir_meaning.specs.Meaning.{past}
+use Rattle.kumir_meaning.specs.Loops.{past}
 use Rattle.stack_code.specs.CodeState.{Slot, Plain, Left, Numbers, Slots, with_slot}
 use Rattle.stack_code.specs.Instructions.{set_variable}
 

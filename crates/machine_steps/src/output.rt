@@ -1,7 +1,7 @@
 //! Outputs as characters.
 ghost use Rattle.std.specs.Prelude.{◌≡◌, ◌++◌, ◌∷◌, [], List, IfOk, string_bytes};
 ghost use Rattle.std.specs.Fmt.{signed_decimal};
-ghost use Rattle.kumir_meaning.specs.Operations.{text_of};
+ghost use Rattle.kumir_meaning.specs.Operators.{text_of};
 
 use km_base::Memory;
 use kumir_tree::Chars;

@@ -1,5 +1,5 @@
 use Rattle.std.proofs.Common.{◌≡◌, ◌++◌, ◌*◌, map, drop}
-use Rattle.kumir_meaning.specs.Operations.{number_of}
+use Rattle.kumir_meaning.specs.Operators.{number_of}
 use Rattle.stack_code.specs.CodeState.{paired}
 use Rattle.machine_steps.proofs.operands.bounds_in.Given as goal
 

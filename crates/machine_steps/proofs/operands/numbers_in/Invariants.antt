@@ -1,5 +1,5 @@
 use Rattle.std.proofs.Common.{◌≡◌, map, take}
-use Rattle.kumir_meaning.specs.Operations.{number_of}
+use Rattle.kumir_meaning.specs.Operators.{number_of}
 use Rattle.machine_steps.proofs.operands.numbers_in.Given as goal
 
 abbrev pub invariant-loop-value : goal.invariant-loop-value
