@@ -2,6 +2,7 @@
 use Rattle.std.proofs.Common.{◌≡◌, ℕ, List, [], ◌∷◌, slice_get, Option, Some, None, refl, ap, sym, ◌∙◌}
 use Rattle.std.specs.Borrow.{Bor}
 use Rattle.type_rules.specs.Headers.{some_head_behind}
+use Rattle.kumir_tree.specs.Part.{Head}
 use Rattle.kumir_tree.specs.declared.header.Header.{Header}
 use Rattle.kumir_tree.specs.declared.unit.UnitRead.{UnitRead}
 use Rattle.kumir_tree.specs.Units.{units_of, placed_of}
@@ -23,8 +24,11 @@ no_unit [] e = refl
 no_unit (p ∷ []) e = refl
 no_unit (p ∷ (v ∷ more)) e = cc
 
-pub main_found : (seen : List (ℕ × UnitRead)) (units : List PlacedUnit) (u : PlacedUnit) (r : Option (Bor Header)) → seen ≡ reads_of units → Some u ≡ slice_get units 1 → some_head_behind r ≡ (placed_of u).1.head → some_head_behind r ≡ first_head (units_in seen)
-main_found seen units u r is at e = e ∙ sym (first_unit units u (sym at)) ∙ ap first_head (sym (units_seen units)) ∙ sym (ap (λ s. first_head (units_in s)) is)
+pub first_found : (units : List PlacedUnit) (u : PlacedUnit) (r : Option (Bor Header)) → Some u ≡ slice_get units 1 → some_head_behind r ≡ (placed_of u).1.head → some_head_behind r ≡ first_head (units_of units)
+first_found units u r at e = e ∙ sym (first_unit units u (sym at))
 
-pub no_main : (seen : List (ℕ × UnitRead)) (units : List PlacedUnit) → seen ≡ reads_of units → None ≡ slice_get units 1 → None ≡ first_head (units_in seen)
-no_main seen units is at = sym (no_unit units (sym at)) ∙ ap first_head (sym (units_seen units)) ∙ sym (ap (λ s. first_head (units_in s)) is)
+pub no_first : (units : List PlacedUnit) → None ≡ slice_get units 1 → None ≡ first_head (units_of units)
+no_first units at = sym (no_unit units (sym at))
+
+pub first_seen : (seen : List (ℕ × UnitRead)) (units : List PlacedUnit) (first : Option Head) → seen ≡ reads_of units → first ≡ first_head (units_of units) → first ≡ first_head (units_in seen)
+first_seen seen units first is e = e ∙ ap first_head (sym (units_seen units)) ∙ sym (ap (λ s. first_head (units_in s)) is)

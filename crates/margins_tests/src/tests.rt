@@ -1,6 +1,5 @@
-use crate::{
-    FAULT_CODES, Margin, MarginRefusal, Mark, print_lines, print_margin, read_margin, read_marks,
-};
+use kumir_tree::fault_codes::FAULT_CODES;
+use margins::{Margin, MarginRefusal, Mark, print_lines, print_margin, read_margin, read_marks};
 use std::alloc::Global;
 use std::test::Fail;
 
