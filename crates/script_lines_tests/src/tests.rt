@@ -1,5 +1,5 @@
-use crate::{Ask, Request, ScriptReader};
 use km_base::Memory;
+use script_lines::{Ask, Request, ScriptReader};
 use std::alloc::Global;
 use std::fmt::Write;
 use std::test::Fail;

@@ -25,13 +25,13 @@ line_cut x y a b h k is =
     let behind = append_cancel_left x (10 ∷ a) (10 ∷ b) (is ∙ ap (λ z. z ++ 10 ∷ b) (sym same)) in
     (same, append_cancel_left (10 ∷ []) a b behind)
 
--- a line, its end and what follows
-pub front : (e : Entry) (after : List ℕ) → printed_entry e ++ after ≡ entry_line e ++ 10 ∷ after
-front e after = append_assoc (entry_line e) (codes "\n") after
+-- a printed entry begins with its line and the end of it
+pub line_prefix : (e : Entry) (after : List ℕ) → printed_entry e ++ after ≡ entry_line e ++ 10 ∷ after
+line_prefix e after = append_assoc (entry_line e) (codes "\n") after
 
-front_cut : (e f : Entry) (a b : List ℕ) → IsShown e → IsShown f → printed_entry e ++ a ≡ printed_entry f ++ b → (e ≡ f) × (a ≡ b)
-front_cut e f a b h k is =
-    let cut = line_cut (entry_line e) (entry_line f) a b (entry_is_line e h.0).1 (entry_is_line f k.0).1 (sym (front e a) ∙ is ∙ front f b) in
+prefix_cut : (e f : Entry) (a b : List ℕ) → IsShown e → IsShown f → printed_entry e ++ a ≡ printed_entry f ++ b → (e ≡ f) × (a ≡ b)
+prefix_cut e f a b h k is =
+    let cut = line_cut (entry_line e) (entry_line f) a b (entry_is_line e h.0).1 (entry_is_line f k.0).1 (sym (line_prefix e a) ∙ is ∙ line_prefix f b) in
     (one_line e f h.0 h.1 k.0 k.1 cut.0, cut.1)
 
 pub one_reading : (es fs : List Entry) (t u : List ℕ) → All IsShown es → All IsShown fs → BeginsNoEntry t → BeginsNoEntry u → print es ++ t ≡ print fs ++ u → (es ≡ fs) × (t ≡ u)
@@ -39,26 +39,26 @@ one_reading [] [] t u h k p q is = (refl, is)
 one_reading [] (f ∷ fs) t u h k p q is = absurd (p f (k 0 f (omega arith)) (print fs ++ u) (is ∙ append_assoc (printed_entry f) (print fs) u))
 one_reading (e ∷ es) [] t u h k p q is = absurd (q e (h 0 e (omega arith)) (print es ++ t) (sym is ∙ append_assoc (printed_entry e) (print es) t))
 one_reading (e ∷ es) (f ∷ fs) t u h k p q is =
-    let cut = front_cut e f (print es ++ t) (print fs ++ u) (h 0 e (omega arith)) (k 0 f (omega arith)) (sym (append_assoc (printed_entry e) (print es) t) ∙ is ∙ append_assoc (printed_entry f) (print fs) u) in
+    let cut = prefix_cut e f (print es ++ t) (print fs ++ u) (h 0 e (omega arith)) (k 0 f (omega arith)) (sym (append_assoc (printed_entry e) (print es) t) ∙ is ∙ append_assoc (printed_entry f) (print fs) u) in
     let rest = one_reading es fs t u (λ j d w. h (suc j) d (omega arith)) (λ j d w. k (suc j) d (omega arith)) p q cut.1 in
     ((λ i. cut.0 i ∷ rest.0 i), rest.1)
 
 pub nothing_begins : BeginsNoEntry []
 nothing_begins e h after is =
-    let lengths : 0 ≡ length (entry_line e) + length (10 ∷ after) = ap length (is ∙ front e after) ∙ length-append (entry_line e) (10 ∷ after) in
+    let lengths : 0 ≡ length (entry_line e) + length (10 ∷ after) = ap length (is ∙ line_prefix e after) ∙ length-append (entry_line e) (10 ∷ after) in
     omega arith
 
 -- bytes that have no line feed begin with no entry, and those whose first line is none
 pub no_feed_none : (bytes : List ℕ) → HasNoFeed bytes → BeginsNoEntry bytes
 no_feed_none bytes h e shown after is =
-    let both = sym (slice_split_none (λ c. eqb c 10) bytes h) ∙ ap (slice_split (λ c. eqb c 10)) (is ∙ front e after) ∙ slice_split_at (λ c. eqb c 10) (entry_line e) 10 after (entry_is_line e shown.0).1 refl in
+    let both = sym (slice_split_none (λ c. eqb c 10) bytes h) ∙ ap (slice_split (λ c. eqb c 10)) (is ∙ line_prefix e after) ∙ slice_split_at (λ c. eqb c 10) (entry_line e) 10 after (entry_is_line e shown.0).1 refl in
     let size : 0 ≡ length (slice_split (λ c. eqb c 10) after) = ap length (tails_same _ _ _ _ both) in
     let more = length-slice_split (λ c. eqb c 10) after in
     omega arith
 
 pub other_line_none : (bytes line after : List ℕ) → HasNoFeed line → bytes ≡ line ++ 10 ∷ after → ((e : Entry) → IsShown e → line ≢ entry_line e) → BeginsNoEntry bytes
 other_line_none bytes line after h is none e shown rest same =
-    none e shown (line_cut line (entry_line e) after rest h (entry_is_line e shown.0).1 (sym is ∙ same ∙ front e rest)).0
+    none e shown (line_cut line (entry_line e) after rest h (entry_is_line e shown.0).1 (sym is ∙ same ∙ line_prefix e rest)).0
 
 -- one more entry
 pub one_more : (bytes : List ℕ) (es : List Entry) (rest : List ℕ) (e : Entry) (after : List ℕ) → bytes ≡ print es ++ rest → rest ≡ printed_entry e ++ after → bytes ≡ print (es ++ e ∷ []) ++ after
@@ -99,7 +99,7 @@ line_parts bytes at is within =
 -- an entry takes bytes
 pub shorter : (rest : List ℕ) (e : Entry) (after : List ℕ) → rest ≡ printed_entry e ++ after → length after + 1 ≤ length rest
 shorter rest e after is =
-    let lengths : length rest ≡ length (entry_line e) + length (10 ∷ after) = ap length (is ∙ front e after) ∙ length-append (entry_line e) (10 ∷ after) in
+    let lengths : length rest ≡ length (entry_line e) + length (10 ∷ after) = ap length (is ∙ line_prefix e after) ∙ length-append (entry_line e) (10 ∷ after) in
     omega arith
 
 -- bytes that are the print of entries

@@ -57,7 +57,7 @@ fn read_bytes(alloc: Global, line: &[u8]) -> Result<Option<Entry>, Memory>
     }
 }
 
-/// The entry whose print stands at the front, and what follows it. None comes exactly where there is none.
+/// The entry whose print is a prefix of the bytes, and what follows it. None comes exactly where there is none.
 fn read_first(alloc: Global, bytes: &[u8]) -> Result<Option<(Entry, &[u8])>, Memory>
     ensures { IfOk result (λ r. MatchOption r (BeginsNoEntry bytes.now) (λ p. IsShown p.0 × (bytes.now ≡ printed_entry p.0 ++ p.1.now))) }
 {
