@@ -8,10 +8,9 @@ use Rattle.kumir_tree.specs.declared.kind.Kind.{Kind}
 use Rattle.kumir_values.specs.declared.value.Value.{Value}
 use Rattle.kumir_values.specs.declared.run_end.RunFault.{RunFault}
 use Rattle.kumir_values.specs.declared.run_end.RunFault.TheVariants.{NoInput}
-use Rattle.kumir_meaning.specs.Runs.{Act, Sent, RunState, Trace, only, after_act, input_as}
+use Rattle.kumir_meaning.specs.Runs.{Act, Sent, RunState, Trace, only, after_act, input_as, usual}
 use Rattle.kumir_meaning.specs.Runs as state
 use Rattle.kumir_meaning.specs.Store.{given_back}
-use Rattle.kumir_meaning.specs.Runs.{usual}
 use Rattle.stack_code.specs.declared.instruction.CallPlace.{CallPlace}
 use Rattle.stack_code.specs.declared.instruction.CodeLine.{CodeLine}
 use Rattle.stack_code.specs.declared.instruction.Instruction.{Instruction}
@@ -19,7 +18,7 @@ use Rattle.stack_code.specs.declared.instruction.Instruction.TheVariants.{Step, 
 use Rattle.stack_code.specs.declared.unit.CodeUnit.{CodeUnit}
 use Rattle.stack_code.specs.declared.unit.ParamSlot.{ParamSlot}
 use Rattle.stack_code.specs.CodeState.{Slots, Frame, State, cell_in, next}
-use Rattle.stack_code.specs.Instructions.{After, On, Over, Event, Go, Tick, Does, Asks, Takes, Halt, Begun, if_fine, calls, returns_to, with_answer, returns, unit_or, unit_at, acts, acts_at, step}
+use Rattle.stack_code.specs.Instructions.{After, On, Over, Event, Go, Tick, Does, Asks, Takes, Halt, Begun, if_fine, enters_unit, returns_to, with_answer, leaves_unit, unit_or, unit_at, event_of, event_at, step}
 use Rattle.stack_code.specs.CodeRuns.{after_some, after_reply, after_input, meet, exec, start, CodeRun}
 use Rattle.stack_code.specs.Operands.{target_of}
 use Rattle.stack_code.specs.Validity.{is_step, is_call, jump_fits, has_no_params, entry_fits}
@@ -29,10 +28,10 @@ use Rattle.machine_steps.specs.declared.held.Cell.TheVariants as cell
 use Rattle.machine_steps.specs.declared.running.Running.{Running}
 use Rattle.machine_steps.specs.Frames.{IsCallAt, AllValid, IsReady, IsEntered}
 use Rattle.machine_steps.specs.Silent.{before_step}
-use Rattle.machine_steps.proofs.Entering.{valid_here, ready, callee_there, past_begin, past_behind}
-use Rattle.machine_steps.proofs.Landing.{no_call_behind, no_call_there, lies_ahead}
+use Rattle.machine_steps.proofs.ValidCalls.{valid_here, ready, callee_there, past_begin, past_behind}
+use Rattle.machine_steps.proofs.JumpsFit.{no_call_behind, no_call_there, lies_ahead}
 use Rattle.kumir_machine.specs.Laws.{HasATrace}
-use Rattle.kumir_machine.proofs.Moving.{Stays, Moves, moves}
+use Rattle.kumir_machine.proofs.LocalTargets.{Stays, Moves, moves}
 
 -- ---- a state in valid code
 
@@ -156,7 +155,7 @@ of_answer units (Ok v) line k n ins rs h = h (v ∷ [])
 of_answer units (Err f) line k n ins rs h = halt units (state.Fault line f) n ins rs
 
 of_return : (units : List CodeUnit) (gives : Option ℕ) (params : List ParamSlot) (line : ℕ) (s : State) (n : ℕ) (ins : List Value) (rs : List Reply)
-    → ((f : Frame) (fs : List Frame) (m : State) → s.frames ≡ f ∷ fs → m.unit ≡ f.unit → m.pc ≡ f.pc → m.frames ≡ fs → Ends units m n ins rs) → Meets units (returns gives params line s) n ins rs
+    → ((f : Frame) (fs : List Frame) (m : State) → s.frames ≡ f ∷ fs → m.unit ≡ f.unit → m.pc ≡ f.pc → m.frames ≡ fs → Ends units m n ins rs) → Meets units (leaves_unit gives params line s) n ins rs
 of_return units None params line s n ins rs h = of_back units s.frames params s.slots [] n ins rs h
 of_return units (Some x) params line s n ins rs h = of_answer units (given_back (cell_in (s.slots x))) line _ n ins rs (λ value. of_back units s.frames params s.slots value n ins rs h)
 
@@ -220,7 +219,7 @@ call_behind units n m l ins rs v fewer there frames at call = go l.what l.line a
   where
     go : (i : Instruction) (line : ℕ) → slice_get (unit_at units m.unit).body m.pc ≡ Some (record { line = line; what = i }) → is_call (Some (record { line = line; what = i })) ≡ true → Ends units m n ins rs
     go (Call number places) line e h =
-        ends units m (calls usual (unit_at units number) number places line m) n ins rs (ap (λ o. acts_at usual units o m) e)
+        ends units m (enters_unit usual (unit_at units number) number places line m) n ins rs (ap (λ o. event_at usual units o m) e)
         (of_call units _ _ line _ _ n ins rs (λ g. step_fewer units n _ ins rs fewer (called_state units m _ line number places _ v there frames e refl refl refl refl refl)))
     go i line e h = absurd (let wrong : ⊥ = cc in wrong)
 
@@ -299,17 +298,17 @@ fewer_calls units zero_or k s f fs m ins rs fewer h le e unit pc frames = go k f
 no_tick : (units : List CodeUnit) (n k : ℕ) (s : State) (i : Instruction) (line : ℕ) (ins : List Value) (rs : List Reply) → AllValid units → FewerSteps units n → FewerCalls units n k → NearerStep units n s → IsState units s
     → length s.frames ≤ k → slice_get (unit_at units s.unit).body s.pc ≡ Some (record { line = line; what = i }) → is_step (Some (record { line = line; what = i })) ≡ false → Ends units s n ins rs
 no_tick units n k s Return line ins rs v fewer less near h le at no_step =
-    ends units s (returns (unit_at units s.unit).gives (unit_at units s.unit).params line s) n ins rs (ap (λ o. acts_at usual units o s) at)
+    ends units s (leaves_unit (unit_at units s.unit).gives (unit_at units s.unit).params line s) n ins rs (ap (λ o. event_at usual units o s) at)
     (of_return units (unit_at units s.unit).gives (unit_at units s.unit).params line s n ins rs (λ f fs m e unit pc frames. fewer_calls units n k s f fs m ins rs less h le e unit pc frames))
 no_tick units n k s (Call number places) line ins rs v fewer less near h le at no_step = absurd (let past = sym h.place.past ∙ call_line _ line number places at in let wrong : ⊥ = cc in wrong)
 no_tick units n k s i line ins rs v fewer less near h le at no_step =
     let u = unit_at units s.unit in
-    ends units s (acts usual units i line s) n ins rs (ap (λ o. acts_at usual units o s) at)
-    (by_event units n s (target_of i) (acts usual units i line s) ins rs v fewer near h (slice_get_within u.body s.pc _ at) (ap is_step at ∙ no_step) ((ready_there units s.unit v h.place.there).jumps s.pc _ at) (moves units i line s refl))
+    ends units s (event_of usual units i line s) n ins rs (ap (λ o. event_at usual units o s) at)
+    (by_event units n s (target_of i) (event_of usual units i line s) ins rs v fewer near h (slice_get_within u.body s.pc _ at) (ap is_step at ∙ no_step) ((ready_there units s.unit v h.place.there).jumps s.pc _ at) (moves units i line s refl))
 
 a_step : (units : List CodeUnit) (n : ℕ) (s : State) (i : Instruction) (line : ℕ) (ins : List Value) (rs : List Reply) → AllValid units → FewerSteps units n → IsState units s
     → slice_get (unit_at units s.unit).body s.pc ≡ Some (record { line = line; what = i }) → is_step (Some (record { line = line; what = i })) ≡ true → Ends units s n ins rs
-a_step units n s Step line ins rs v fewer h at step = ends units s (Tick (next s s.stack)) n ins rs (ap (λ o. acts_at usual units o s) at) (at_tick units n s (next s s.stack) ins rs v fewer h refl refl)
+a_step units n s Step line ins rs v fewer h at step = ends units s (Tick (next s s.stack)) n ins rs (ap (λ o. event_at usual units o s) at) (at_tick units n s (next s s.stack) ins rs v fewer h refl refl)
 a_step units n s i line ins rs v fewer h at step = absurd (let wrong : ⊥ = cc in wrong)
 
 at_line : (units : List CodeUnit) (n k : ℕ) (s : State) (l : CodeLine) (ins : List Value) (rs : List Reply) → AllValid units → FewerSteps units n → FewerCalls units n k → NearerStep units n s → IsState units s
@@ -319,7 +318,7 @@ at_line units n k s l ins rs v fewer less near h le at false e = no_tick units n
 
 at_place : (units : List CodeUnit) (n k : ℕ) (s : State) (ins : List Value) (rs : List Reply) → AllValid units → FewerSteps units n → FewerCalls units n k → NearerStep units n s → IsState units s
     → length s.frames ≤ k → (o : Option CodeLine) → slice_get (unit_at units s.unit).body s.pc ≡ o → Ends units s n ins rs
-at_place units n k s ins rs v fewer less near h le None at = ends units s (Halt state.Done) n ins rs (ap (λ o. acts_at usual units o s) at) (halt units state.Done n ins rs)
+at_place units n k s ins rs v fewer less near h le None at = ends units s (Halt state.Done) n ins rs (ap (λ o. event_at usual units o s) at) (halt units state.Done n ins rs)
 at_place units n k s ins rs v fewer less near h le (Some l) at = at_line units n k s l ins rs v fewer less near h le at (is_step (Some l)) refl
 
 nothing_below : {P : Type 0} (n : ℕ) → n < 0 → P

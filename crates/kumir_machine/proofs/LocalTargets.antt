@@ -14,16 +14,16 @@ use Rattle.kumir_values.specs.declared.run_end.RunFault.{RunFault}
 use Rattle.kumir_values.specs.Bounds.{all_ordered, elements}
 use Rattle.kumir_meaning.specs.Operators.{number_of, is_yes, combined}
 use Rattle.kumir_meaning.specs.Store.{elements_in}
-use Rattle.kumir_meaning.specs.Runs.{Act, RunState}
+use Rattle.kumir_meaning.specs.Runs.{Act, RunState, usual, reply_value, is_wall}
 use Rattle.kumir_meaning.specs.Runs as state
 use Rattle.kumir_meaning.specs.Loops.{past}
-use Rattle.kumir_meaning.specs.Runs.{usual, reply_value, is_wall}
 use Rattle.stack_code.specs.declared.instruction.CommandShape.TheVariants.{Robot, Pen}
 use Rattle.stack_code.specs.declared.instruction.Instruction.{Instruction}
 use Rattle.stack_code.specs.declared.instruction.Instruction.TheVariants.{Push, Drop, Load, Store, Clear, Elem, PutElem, Probe, Make, Fit, Add, Sub, Mul, Pow, Neg, Div, Mod, Abs, Min, Max, Eq, Ne, Lt, Le, Gt, Ge, EqTruth, NeTruth, Not, Jump, JumpNo, Step, Times, Turns, Next, Out, OutText, OutLine, Input, Assert, Quit, Ask, Call, Return}
 use Rattle.stack_code.specs.declared.unit.CodeUnit.{CodeUnit}
 use Rattle.stack_code.specs.CodeState.{Slot, Plain, Left, Numbers, State, top, rest, numbers, paired, cell_in, with_slot, goes_to, next}
-use Rattle.stack_code.specs.Instructions.{After, On, Over, Event, Go, Tick, Does, Asks, Takes, Halt, gives, operates, if_fine, makes, set_variable, next_turn, begins_turns, acts, is_test}
+use Rattle.performer_kit.specs.Commands.{is_test}
+use Rattle.stack_code.specs.Instructions.{After, On, Over, Event, Go, Tick, Does, Asks, Takes, Halt, pushes_result, operates, if_fine, makes_table, set_variable, next_turn, begins_turns, event_of}
 use Rattle.stack_code.specs.Operands.{target_of}
 
 -- it neither enters nor leaves an algorithm
@@ -86,7 +86,7 @@ of_halt : (e : RunState) (s : State) (t : Option ℕ) → Moves s t (Halt e)
 unfolding Moves
 of_halt e s t = tt
 
-of_gives : (got : Result Value RunFault) (line : ℕ) (s : State) (stack : List Value) → Moves s None (gives got line s stack)
+of_gives : (got : Result Value RunFault) (line : ℕ) (s : State) (stack : List Value) → Moves s None (pushes_result got line s stack)
 of_gives (Ok v) line s stack = of_go s _ None refl refl refl
 of_gives (Err f) line s stack = of_halt _ s None
 
@@ -101,7 +101,7 @@ of_choice : (b : Bool) (s : State) (t : Option ℕ) (v w : Event) → Moves s t 
 of_choice true s t v w p q = p
 of_choice false s t v w p q = q
 
-of_makes : (room x : ℕ) (kind : Kind) (bounds : List Bound) (line : ℕ) (s : State) (stack : List Value) → Moves s None (makes room x kind bounds line s stack)
+of_makes : (room x : ℕ) (kind : Kind) (bounds : List Bound) (line : ℕ) (s : State) (stack : List Value) → Moves s None (makes_table room x kind bounds line s stack)
 of_makes room x kind bounds line s stack =
     of_choice (all_ordered bounds) s None _ _ (of_choice (nat_le (s.used - elements_in (cell_in (s.slots x)) + elements bounds) room) s None _ _ (of_go s _ None refl refl refl) (of_halt _ s None)) (of_halt _ s None)
 
@@ -123,7 +123,7 @@ of_answer : (b : Bool) (s : State) (a : ℕ) (stack : List Value) → Moves s (S
 of_answer true s a stack = of_go s _ (Some a) refl refl refl
 of_answer false s a stack = of_jump s _ (Some a) refl refl refl
 
-pub moves : (units : List CodeUnit) (i : Instruction) (line : ℕ) (s : State) → is_alone i ≡ true → Moves s (target_of i) (acts usual units i line s)
+pub moves : (units : List CodeUnit) (i : Instruction) (line : ℕ) (s : State) → is_alone i ≡ true → Moves s (target_of i) (event_of usual units i line s)
 moves units (Push v) line s h = of_go s _ None refl refl refl
 moves units Drop line s h = of_go s _ None refl refl refl
 moves units (Load x) line s h = of_gives _ line s _

@@ -1,8 +1,8 @@
 //! How a machine goes on.
 ghost use Rattle.std.specs.Prelude.{◌≡◌, ◌≤◌};
 ghost use Rattle.machine_steps.specs.Frames.{AllValid};
-ghost use Rattle.machine_steps.specs.Stages.{moment_of, IsStage, Asks};
-ghost use Rattle.kumir_machine.specs.Going.{phase_at, answer_at, phase_after, answer_after, Goes, AfterReply, Moves, IsAt};
+ghost use Rattle.machine_steps.specs.Stages.{full_state_of, IsStage, AsksNext};
+ghost use Rattle.kumir_machine.specs.ActiveRuns.{phase_at, answer_at, phase_after, answer_after, Goes, AfterReply, Moves, IsAt};
 
 use crate::answer::Advanced;
 use km_base::Memory;
@@ -31,7 +31,7 @@ pub enum Phase {
 
 /// A run that goes on.
 #[derive(Drop)]
-pub struct Going {
+pub struct ActiveRun {
     pub stage: Stage,
     /// How many steps were taken.
     pub steps: u32,
@@ -93,23 +93,16 @@ fn turn_after(came: Result<Reached, Memory>) -> Turn
 }
 
 /// Takes steps, and answers what they led to.
-fn go_on(alloc: Global, units: &[CodeUnit], going: &mut Going, budget: u32, most: u32) -> Advanced
+fn go_on(alloc: Global, units: &[CodeUnit], run: &mut ActiveRun, budget: u32, most: u32) -> Advanced
     requires valid { AllValid units.now }
-    requires stage { IsStage units.now going.old.stage }
-    requires within { going.old.steps ≤ budget }
-    ensures goes { Goes units.now budget most (moment_of units.now going.old.stage) going.old.steps result going.new }
-    ensures inputs { going.new.stage.inputs ≡ going.old.stage.inputs }
+    requires stage { IsStage units.now run.old.stage }
+    requires within { run.old.steps ≤ budget }
+    ensures goes { Goes units.now budget most (full_state_of units.now run.old.stage) run.old.steps result run.new }
+    ensures inputs { run.new.stage.inputs ≡ run.old.stage.inputs }
 {
-    let came = run_steps(
-        alloc,
-        units,
-        &mut going.stage,
-        &mut going.steps,
-        budget,
-        most,
-    );
+    let came = run_steps(alloc, units, &mut run.stage, &mut run.steps, budget, most);
     let turn = turn_after(came);
-    going.phase = turn.phase;
+    run.phase = turn.phase;
     turn.answer
 }
 
@@ -117,27 +110,27 @@ fn go_on(alloc: Global, units: &[CodeUnit], going: &mut Going, budget: u32, most
 fn go_on_behind(
     alloc: Global,
     units: &[CodeUnit],
-    going: &mut Going,
+    run: &mut ActiveRun,
     question: Question,
     reply: Reply,
     budget: u32,
     most: u32,
 ) -> Advanced
     requires valid { AllValid units.now }
-    requires stage { IsStage units.now going.old.stage }
-    requires asks { Asks units.now question (moment_of units.now going.old.stage) }
-    requires within { going.old.steps ≤ budget }
-    ensures goes { AfterReply units.now budget most going.old question reply result going.new }
-    ensures inputs { going.new.stage.inputs ≡ going.old.stage.inputs }
+    requires stage { IsStage units.now run.old.stage }
+    requires asks { AsksNext units.now question (full_state_of units.now run.old.stage) }
+    requires within { run.old.steps ≤ budget }
+    ensures goes { AfterReply units.now budget most run.old question reply result run.new }
+    ensures inputs { run.new.stage.inputs ≡ run.old.stage.inputs }
 {
-    match take_reply(units, &mut going.stage, question, reply) {
-        Ok(None) => go_on(alloc, units, going, budget, most),
+    match take_reply(units, &mut run.stage, question, reply) {
+        Ok(None) => go_on(alloc, units, run, budget, most),
         Ok(Some(end)) => {
-            going.phase = Phase::Over(end);
+            run.phase = Phase::Over(end);
             Advanced::Ended(end)
         }
         Err(Memory) => {
-            going.phase = Phase::Failed;
+            run.phase = Phase::Failed;
             Advanced::Memory
         }
     }
@@ -147,21 +140,21 @@ fn go_on_behind(
 pub fn move_on(
     alloc: Global,
     units: &[CodeUnit],
-    going: &mut Going,
+    run: &mut ActiveRun,
     budget: u32,
     most: u32,
 ) -> Advanced
     requires valid { AllValid units.now }
-    requires stands { IsAt units.now going.old.phase going.old.stage }
-    requires within { going.old.steps ≤ budget }
-    ensures moves { Moves units.now budget most going.old.phase going.old result going.new }
-    ensures inputs { going.new.stage.inputs ≡ going.old.stage.inputs }
+    requires phase { IsAt units.now run.old.phase run.old.stage }
+    requires within { run.old.steps ≤ budget }
+    ensures moves { Moves units.now budget most run.old.phase run.old result run.new }
+    ensures inputs { run.new.stage.inputs ≡ run.old.stage.inputs }
 {
-    match going.phase {
-        Phase::Ready => go_on(alloc, units, going, budget, most),
+    match run.phase {
+        Phase::Ready => go_on(alloc, units, run, budget, most),
         Phase::OwesRobot(_) | Phase::OwesPen(_) => Advanced::AwaitReply,
         Phase::Replied(question, reply) => {
-            go_on_behind(alloc, units, going, question, reply, budget, most)
+            go_on_behind(alloc, units, run, question, reply, budget, most)
         }
         Phase::Over(end) => Advanced::Ended(end),
         Phase::Failed => Advanced::Memory,

@@ -9,14 +9,14 @@ use Rattle.stack_code.specs.declared.unit.CodeUnit.{CodeUnit}
 use Rattle.stack_code.specs.CodeRuns.{start}
 use Rattle.stack_code.specs.Validity.{has_no_params, IsValid, ValidCode}
 use Rattle.machine_steps.specs.declared.stage.Stage.{Stage}
-use Rattle.machine_steps.specs.Progress.{at, Comes}
+use Rattle.machine_steps.specs.Progress.{at, StepsTo}
 use Rattle.machine_steps.specs.Frames.{AllValid}
-use Rattle.machine_steps.specs.Stages.{moment_of, IsStage}
-use Rattle.machine_steps.proofs.Coming.{comes_none}
+use Rattle.machine_steps.specs.Stages.{full_state_of, IsStage}
+use Rattle.machine_steps.proofs.EventSteps.{steps_to_none}
 use Rattle.kumir_machine.specs.declared.answer.Advanced.{Advanced}
-use Rattle.kumir_machine.specs.declared.going.Phase.TheVariants as phase
+use Rattle.kumir_machine.specs.declared.active.Phase.TheVariants as phase
 use Rattle.kumir_machine.specs.Course.{acts_in}
-use Rattle.kumir_machine.specs.Standing.{course_of, IsMachine}
+use Rattle.kumir_machine.specs.Phases.{course_of, IsMachine}
 
 pub all_valid : (xs ys : List CodeUnit) (entry : Option ℕ) → xs ≡ ys → IsValid ys entry → AllValid xs
 all_valid xs ys entry e h = subst AllValid (sym e) h.each
@@ -29,18 +29,18 @@ entry_there xs ys o entry e is h = subst (λ l. entry < length l) (sym e) (go (s
     go (Some u) e h = slice_get_within ys entry u e
 
 pub begun_machine : (code : ValidCode) (units : List CodeUnit) (budget entry : ℕ) (inputs : List Value) (s : Stage) (replies : List Reply) (answers : List Advanced) → code.entry ≡ Some entry → units ≡ code.units
-    → IsStage units s → moment_of units s ≡ at (start entry) inputs → s.inputs ≡ inputs → replies ≡ [] → answers ≡ []
+    → IsStage units s → full_state_of units s ≡ at (start entry) inputs → s.inputs ≡ inputs → replies ≡ [] → answers ≡ []
     → IsMachine (course_of code budget (record { stage = s; steps = 0; phase = phase.Ready }) replies answers) (record { stage = s; steps = 0; phase = phase.Ready })
 begun_machine code units budget entry inputs s replies answers is same stage begin from none none_yet =
-    let there = ap (λ u. moment_of u s) (sym same) ∙ begin ∙ ap (at (start entry)) (sym from) in (
+    let there = ap (λ u. full_state_of u s) (sym same) ∙ begin ∙ ap (at (start entry)) (sym from) in (
       let le : 0 ≤ budget = omega arith in le,
       record {
         entry = entry;
         is = is;
         comes =
-            subst (λ l. Comes code.units (at (start entry) s.inputs) 0 l (acts_in answers) (moment_of code.units s)) (sym none)
-            (subst (λ l. Comes code.units (at (start entry) s.inputs) 0 [] (acts_in l) (moment_of code.units s)) (sym none_yet)
-            (subst (λ m. Comes code.units (at (start entry) s.inputs) 0 [] [] m) (sym there) (comes_none code.units (at (start entry) s.inputs))));
+            subst (λ l. StepsTo code.units (at (start entry) s.inputs) 0 l (acts_in answers) (full_state_of code.units s)) (sym none)
+            (subst (λ l. StepsTo code.units (at (start entry) s.inputs) 0 [] (acts_in l) (full_state_of code.units s)) (sym none_yet)
+            (subst (λ m. StepsTo code.units (at (start entry) s.inputs) 0 [] [] m) (sym there) (steps_to_none code.units (at (start entry) s.inputs))));
         stage = subst (λ u. IsStage u s) same stage;
       },
     )
