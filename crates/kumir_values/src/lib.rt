@@ -5,8 +5,6 @@ mod arithmetic;
 mod bounds;
 mod run_end;
 mod table;
-#[cfg(test)]
-mod tests;
 mod value;
 
 pub use arithmetic::{add, div, iabs, imax, imin, mul, neg, power, rem, sub};

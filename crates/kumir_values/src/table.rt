@@ -33,6 +33,16 @@ impl From<AllocError> for TableRefusal {
     }
 }
 
+impl From<Memory> for TableRefusal {
+    ghost use Rattle.kumir_values.specs.declared.table.TableRefusal.{TableRefusal};
+
+    ghost from_gives = { λ refused refusal. refusal ≡ TableRefusal.Memory };
+
+    fn from(_refused: Memory) -> TableRefusal {
+        TableRefusal::Memory
+    }
+}
+
 /// A table. Contracts see its kind, its bounds and the map `value_at` from lists of indexes to values.
 #[derive(Drop)]
 pub struct Table {

@@ -7,7 +7,7 @@ use Rattle.machine_steps.specs.declared.acted.Acted.{Acted}
 use Rattle.machine_steps.specs.declared.acted.Acted.TheVariants as did
 use Rattle.stack_code.specs.CodeState.{State, Frame}
 use Rattle.machine_steps.specs.declared.running.Running.{Running}
-use Rattle.machine_steps.specs.Moments.{state_of}
+use Rattle.machine_steps.specs.States.{state_of}
 use Rattle.stack_code.specs.Instructions.{Event, Go, Tick, Does, Asks, Takes, Halt}
 
 -- the act of an instruction

@@ -3,7 +3,7 @@ use Rattle.std.specs.Prelude.{◌≡◌, ℕ, [], length, Result, Ok, Err}
 use Rattle.kumir_values.specs.declared.run_end.RunFault.{RunFault}
 use Rattle.stack_code.specs.Instructions.{Begun}
 use Rattle.machine_steps.specs.declared.running.Running.{Running}
-use Rattle.machine_steps.specs.Moments.{slots_of}
+use Rattle.machine_steps.specs.States.{slots_of}
 
 -- a parameter was given what the definition gives it, or has its fault
 abbrev pub Receives : Result Begun RunFault → Result (Unit {0}) RunFault → Running → Type 0
@@ -20,9 +20,9 @@ pub record IsSameBut (old new : Running) : Type 0 where
   pub operands : new.operands ≡ old.operands
 
 -- the algorithm of this unit, which has so many slots, begins as the definition says, or the call has its fault
-abbrev pub Begins : Result Begun RunFault → Result Running RunFault → ℕ → ℕ → Type 0
-Begins (Ok g) (Ok new) number slots =
+abbrev pub BeginsAs : Result Begun RunFault → Result Running RunFault → ℕ → ℕ → Type 0
+BeginsAs (Ok g) (Ok new) number slots =
     (new.unit ≡ number) × (new.pc ≡ 0) × (new.operands ≡ []) × (g ≡ (slots_of new.slots, new.used)) × (length new.slots ≡ slots)
-Begins (Ok g) (Err f) number slots = ⊥
-Begins (Err f) (Ok new) number slots = ⊥
-Begins (Err f) (Err g) number slots = g ≡ f
+BeginsAs (Ok g) (Err f) number slots = ⊥
+BeginsAs (Err f) (Ok new) number slots = ⊥
+BeginsAs (Err f) (Err g) number slots = g ≡ f

@@ -10,7 +10,7 @@ use Rattle.stack_code.specs.Instructions.{unit_at}
 use Rattle.stack_code.specs.Validity.{IsUnit, is_call, jump_fits, call_stands}
 use Rattle.stack_code.specs.Operands.{target_of}
 use Rattle.machine_steps.specs.declared.running.Running.{Running}
-use Rattle.machine_steps.specs.Moments.{slots_of, state_of}
+use Rattle.machine_steps.specs.States.{slots_of, state_of}
 use Rattle.machine_steps.specs.Local.{FitsIn}
 
 -- the places of a call
@@ -39,8 +39,8 @@ abbrev pub state_in : List CodeUnit → Running → List Running → State
 state_in units r waiting = state_of r (frames_of units waiting)
 
 -- an algorithm behind a call that takes so many operands
-abbrev pub behind : Running → ℕ → Running
-behind r n = record { unit = r.unit; pc = r.pc + 1; operands = drop n r.operands; slots = r.slots; used = r.used }
+abbrev pub behind_call : Running → ℕ → Running
+behind_call r n = record { unit = r.unit; pc = r.pc + 1; operands = drop n r.operands; slots = r.slots; used = r.used }
 
 -- a call of that unit with these places stands there
 abbrev pub IsCallAt : Option CodeLine → ℕ → List CallPlace → Type 0

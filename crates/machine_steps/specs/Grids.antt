@@ -11,7 +11,7 @@ use Rattle.kumir_meaning.specs.Runs as state
 use Rattle.stack_code.specs.CodeState.{State}
 use Rattle.stack_code.specs.Instructions.{Event, Go, Halt}
 use Rattle.machine_steps.specs.declared.held.Cell.TheVariants.{Holds}
-use Rattle.machine_steps.specs.Moments.{cell_of}
+use Rattle.machine_steps.specs.States.{cell_view}
 
 -- the answer of a check: it passed, or has this fault
 abbrev pub IsFine : {T : Type 0} → Result T RunFault → Result (Unit {0}) RunFault → Type 0
@@ -28,7 +28,7 @@ goes (Err fault) line s = Halt (state.Fault line fault)
 -- a table made anew where so many elements are in use: `bounds` first, then `elements`; and how many are in use with it
 abbrev pub IsMade : ℕ → Kind → List Bound → ℕ → Result (Grid × ℕ) RunFault → Type 0
 IsMade room kind bounds used (Ok made) =
-    (all_ordered bounds ≡ true) × (used + elements bounds ≤ room) × (cell_of (Holds made.0) ≡ without_values kind bounds) × (made.1 ≡ used + elements bounds)
+    (all_ordered bounds ≡ true) × (used + elements bounds ≤ room) × (cell_view (Holds made.0) ≡ without_values kind bounds) × (made.1 ≡ used + elements bounds)
 IsMade room kind bounds used (Err Bounds) = all_ordered bounds ≡ false
 IsMade room kind bounds used (Err Elements) = (all_ordered bounds ≡ true) × (room < used + elements bounds)
 IsMade room kind bounds used (Err other) = ⊥

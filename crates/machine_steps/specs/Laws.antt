@@ -4,39 +4,38 @@ use Rattle.kumir_tree.specs.declared.kind.Kind.{Kind}
 use Rattle.performer_kit.specs.declared.commands.Command.{Command}
 use Rattle.performer_kit.specs.declared.commands.Reply.{Reply}
 use Rattle.kumir_values.specs.declared.value.Value.{Value}
-use Rattle.kumir_meaning.specs.Runs.{Act, Sent, RunState, Trace, input_as}
-use Rattle.kumir_meaning.specs.Runs.{usual}
+use Rattle.kumir_meaning.specs.Runs.{Act, Sent, RunState, Trace, input_as, usual, IsPrefix}
 use Rattle.stack_code.specs.declared.unit.CodeUnit.{CodeUnit}
 use Rattle.stack_code.specs.CodeState.{State}
 use Rattle.stack_code.specs.Instructions.{After, On, Go, Tick, Does, Asks, Takes, step}
-use Rattle.stack_code.specs.CodeRuns.{meet, exec, start, CodeRun, Begins}
-use Rattle.machine_steps.specs.Progress.{Moment, at, Comes}
+use Rattle.stack_code.specs.CodeRuns.{meet, exec, start, CodeRun}
+use Rattle.machine_steps.specs.Progress.{FullState, at, StepsTo}
 
 -- nothing happened yet; and two stretches join
-pub record ComesOnward : Type 0 where
-  pub none : (units : List CodeUnit) (a : Moment) → Comes units a 0 [] [] a
-  pub both : (units : List CodeUnit) (a b c : Moment) (m k : ℕ) (g h : List Reply) (x y : List Act)
-      → Comes units a m g x b → Comes units b k h y c → Comes units a (m + k) (g ++ h) (x ++ y) c
+pub record StepsJoin : Type 0 where
+  pub none : (units : List CodeUnit) (a : FullState) → StepsTo units a 0 [] [] a
+  pub both : (units : List CodeUnit) (a b c : FullState) (m k : ℕ) (g h : List Reply) (x y : List Act)
+      → StepsTo units a m g x b → StepsTo units b k h y c → StepsTo units a (m + k) (g ++ h) (x ++ y) c
 
 -- one instruction
-pub record EachEventComes : Type 0 where
-  pub goes : (units : List CodeUnit) (s m : State) (inputs : List Value) → step usual units s ≡ Go m → Comes units (at s inputs) 0 [] [] (at m inputs)
-  pub ticks : (units : List CodeUnit) (s m : State) (inputs : List Value) → step usual units s ≡ Tick m → Comes units (at s inputs) 1 [] [] (at m inputs)
-  pub acts : (units : List CodeUnit) (s m : State) (inputs : List Value) (a : Act) → step usual units s ≡ Does a m → Comes units (at s inputs) 0 [] (a ∷ []) (at m inputs)
+pub record EachEventStepsTo : Type 0 where
+  pub goes : (units : List CodeUnit) (s m : State) (inputs : List Value) → step usual units s ≡ Go m → StepsTo units (at s inputs) 0 [] [] (at m inputs)
+  pub ticks : (units : List CodeUnit) (s m : State) (inputs : List Value) → step usual units s ≡ Tick m → StepsTo units (at s inputs) 1 [] [] (at m inputs)
+  pub acts : (units : List CodeUnit) (s m : State) (inputs : List Value) (a : Act) → step usual units s ≡ Does a m → StepsTo units (at s inputs) 0 [] (a ∷ []) (at m inputs)
   pub replied : (units : List CodeUnit) (s m : State) (inputs : List Value) (c : Command) (after : Reply → After) (r : Reply)
-      → step usual units s ≡ Asks c after → after r ≡ On m → Comes units (at s inputs) 0 (r ∷ []) (Sent c ∷ []) (at m inputs)
+      → step usual units s ≡ Asks c after → after r ≡ On m → StepsTo units (at s inputs) 0 (r ∷ []) (Sent c ∷ []) (at m inputs)
   pub took : (units : List CodeUnit) (s : State) (kind : Kind) (line : ℕ) (k : Value → State) (v w : Value) (inputs : List Value)
-      → step usual units s ≡ Takes kind line k → input_as kind v ≡ Ok w → Comes units (at s (v ∷ inputs)) 0 [] [] (at (k w) inputs)
+      → step usual units s ≡ Takes kind line k → input_as kind v ≡ Ok w → StepsTo units (at s (v ∷ inputs)) 0 [] [] (at (k w) inputs)
 
-abbrev pub BeginsTheRun : Type 0
-BeginsTheRun =
-    (units : List CodeUnit) (entry taken : ℕ) (inputs : List Value) (given : List Reply) (acts : List Act) (b : Moment)
-    → Comes units (at (start entry) inputs) taken given acts b
-    → (t : Trace) → CodeRun units entry inputs given taken t → Begins acts t.acts
+abbrev pub IsPrefixOfTheRun : Type 0
+IsPrefixOfTheRun =
+    (units : List CodeUnit) (entry taken : ℕ) (inputs : List Value) (given : List Reply) (acts : List Act) (b : FullState)
+    → StepsTo units (at (start entry) inputs) taken given acts b
+    → (t : Trace) → CodeRun units entry inputs given taken t → IsPrefix acts t.acts
 
 abbrev pub EndsTheRun : Type 0
 EndsTheRun =
-    (units : List CodeUnit) (entry taken n all : ℕ) (inputs : List Value) (given : List Reply) (acts more : List Act) (b : Moment) (e : RunState)
-    → Comes units (at (start entry) inputs) taken given acts b → taken + n ≡ all
+    (units : List CodeUnit) (entry taken n all : ℕ) (inputs : List Value) (given : List Reply) (acts more : List Act) (b : FullState) (e : RunState)
+    → StepsTo units (at (start entry) inputs) taken given acts b → taken + n ≡ all
     → meet (step usual units b.state) (exec usual units 0) n b.inputs [] ≡ Some (record { acts = more; state = e })
     → CodeRun units entry inputs given all (record { acts = acts ++ more; state = e })

@@ -1,4 +1,4 @@
-pub mod Moments
+pub mod States
 pub mod Acting
 pub mod Progress
 pub mod Local
@@ -10,7 +10,7 @@ pub mod Calls
 pub mod Returns
 pub mod Frames
 pub mod Silent
-pub mod Standing
+pub mod NonLocals
 pub mod Stages
 pub mod Reaching
 pub mod Replying

@@ -2,7 +2,7 @@
 use Rattle.std.specs.Prelude.{◌≡◌, ℕ, ◌<◌, Bool, true, false, List, length, IfSome}
 use Rattle.stack_code.specs.declared.instruction.Instruction.{Instruction}
 use Rattle.stack_code.specs.declared.instruction.CommandShape.TheVariants.{Robot, Pen}
-use Rattle.stack_code.specs.declared.instruction.Instruction.TheVariants.{PutElem, Make, Step, Input, Ask, Call, Return, Store, Clear, Times, Turns, Next}
+use Rattle.stack_code.specs.declared.instruction.Instruction.TheVariants.{PutElem, Make, Step, Input, Ask, Call, Return, Store, Clear, Times, Turns, Next, Add, Sub, Mul, Pow, Neg, Div, Mod, Abs, Min, Max, Eq, Ne, Lt, Le, Gt, Ge, EqTruth, NeTruth, Not}
 use Rattle.stack_code.specs.declared.unit.CodeUnit.{CodeUnit}
 use Rattle.stack_code.specs.Validity.{names_fit}
 
@@ -15,6 +15,29 @@ is_local (Ask (Pen c)) = true
 is_local (Call u places) = false
 is_local Return = false
 is_local i = true
+
+-- an operator or a built-in algorithm on the operands on top
+abbrev pub is_operator : Instruction → Bool
+is_operator Add = true
+is_operator Sub = true
+is_operator Mul = true
+is_operator Pow = true
+is_operator Neg = true
+is_operator Div = true
+is_operator Mod = true
+is_operator Abs = true
+is_operator Min = true
+is_operator Max = true
+is_operator Eq = true
+is_operator Ne = true
+is_operator Lt = true
+is_operator Le = true
+is_operator Gt = true
+is_operator Ge = true
+is_operator EqTruth = true
+is_operator NeTruth = true
+is_operator Not = true
+is_operator i = false
 
 -- the slots that it writes are there
 abbrev pub FitsIn : ℕ → Instruction → Type 0

@@ -1,9 +1,8 @@
--- What a run comes to within some steps.
+-- What a run leads to within some steps.
 use Rattle.std.specs.Prelude.{◌≡◌, ℕ, ◌+◌, ◌<◌, ◌≤◌, List, [], ◌∷◌, Option, Some, None, All}
 use Rattle.performer_kit.specs.declared.commands.Command.TheVariants.{Pen}
 use Rattle.kumir_values.specs.declared.run_end.EndKind.{EndKind}
-use Rattle.kumir_meaning.specs.Runs.{Printed, Sent, RunState, Going, only, end_of}
-use Rattle.kumir_meaning.specs.Runs.{usual}
+use Rattle.kumir_meaning.specs.Runs.{Printed, Sent, RunState, Going, only, end_of, usual}
 use Rattle.stack_code.specs.declared.unit.CodeUnit.{CodeUnit}
 use Rattle.stack_code.specs.CodeRuns.{exec}
 use Rattle.machine_steps.specs.declared.running.Running.{Running}
@@ -12,30 +11,30 @@ use Rattle.machine_steps.specs.declared.stage.Stop.{Stop}
 use Rattle.machine_steps.specs.declared.stage.Stop.TheVariants as stop
 use Rattle.machine_steps.specs.declared.steps.Reached.{Reached}
 use Rattle.machine_steps.specs.declared.steps.Reached.TheVariants as reached
-use Rattle.machine_steps.specs.Progress.{Moment, Comes}
+use Rattle.machine_steps.specs.Progress.{FullState, StepsTo}
 use Rattle.machine_steps.specs.Carried.{EndsIn}
 use Rattle.machine_steps.specs.Frames.{IsEntered, Waits}
-use Rattle.machine_steps.specs.Stages.{IsStage, NeedsStep, Asks}
+use Rattle.machine_steps.specs.Stages.{IsStage, NeedsStep, AsksNext}
 
--- so many steps lead to some moment at which the run ends in that way
-abbrev pub EndsAfter : List CodeUnit → Moment → ℕ → EndKind → Type 0
-EndsAfter units a taken end = (m : Moment) × (state : RunState) × Comes units a taken [] [] m × (end_of state ≡ Some end) × EndsIn units m state
+-- so many steps lead to some state in which the run ends in that way
+abbrev pub EndsAfter : List CodeUnit → FullState → ℕ → EndKind → Type 0
+EndsAfter units a taken end = (m : FullState) × (state : RunState) × StepsTo units a taken [] [] m × (end_of state ≡ Some end) × EndsIn units m state
 
 -- what so many steps lead to
-abbrev pub Reaches : List CodeUnit → Moment → ℕ → Reached → Moment → Type 0
-Reaches units a taken (reached.Printed text) b = Comes units a taken [] (Printed text ∷ []) b
-Reaches units a taken (reached.Told command) b = Comes units a taken [] (Sent (Pen command) ∷ []) b
-Reaches units a taken (reached.Asks q) b = Comes units a taken [] [] b × Asks units q b
+abbrev pub Reaches : List CodeUnit → FullState → ℕ → Reached → FullState → Type 0
+Reaches units a taken (reached.Printed text) b = StepsTo units a taken [] (Printed text ∷ []) b
+Reaches units a taken (reached.Told command) b = StepsTo units a taken [] (Sent (Pen command) ∷ []) b
+Reaches units a taken (reached.Asks q) b = StepsTo units a taken [] [] b × AsksNext units q b
 Reaches units a taken (reached.Over end) b = EndsAfter units a taken end
-Reaches units a taken reached.Paused b = Comes units a taken [] [] b × NeedsStep units b
-Reaches units a taken reached.Spent b = Comes units a taken [] [] b × NeedsStep units b
+Reaches units a taken reached.Paused b = StepsTo units a taken [] [] b × NeedsStep units b
+Reaches units a taken reached.Spent b = StepsTo units a taken [] [] b × NeedsStep units b
 
--- so many steps lead to some moment
-abbrev pub ComesSome : List CodeUnit → Moment → ℕ → Type 0
-ComesSome units a taken = (m : Moment) × Comes units a taken [] [] m
+-- so many steps lead to some state
+abbrev pub StepsToSome : List CodeUnit → FullState → ℕ → Type 0
+StepsToSome units a taken = (m : FullState) × StepsTo units a taken [] [] m
 
 -- so many steps are needed: with fewer of them the run shows nothing and needs one more
-abbrev pub NeedsEach : List CodeUnit → Moment → ℕ → Type 0
+abbrev pub NeedsEach : List CodeUnit → FullState → ℕ → Type 0
 NeedsEach units a taken = (n : ℕ) → n < taken → (j : ℕ) × (exec usual units j a.state n a.inputs [] ≡ Some (only Going))
 
 -- behind a step: a call may stand next
@@ -44,13 +43,13 @@ pub record IsBehindStep (units : List CodeUnit) (s : Stage) : Type 0 where
   pub waits : All (Waits units) s.waiting.items
 
 -- one step, and the call behind it: it goes on, or the run ends
-abbrev pub Enters : List CodeUnit → Moment → Option EndKind → Moment → Type 0
-Enters units a None b = Comes units a 0 [] [] b
+abbrev pub Enters : List CodeUnit → FullState → Option EndKind → FullState → Type 0
+Enters units a None b = StepsTo units a 0 [] [] b
 Enters units a (Some end) b = (state : RunState) × (end_of state ≡ Some end) × EndsIn units a state
 
 -- one step: it goes on, or the run ends
-abbrev pub Passes : List CodeUnit → Moment → Option EndKind → Moment → Type 0
-Passes units a None b = Comes units a 1 [] [] b
+abbrev pub Passes : List CodeUnit → FullState → Option EndKind → FullState → Type 0
+Passes units a None b = StepsTo units a 1 [] [] b
 Passes units a (Some end) b = EndsAfter units a 1 end
 
 -- what a stop is to the run, but for one before a step

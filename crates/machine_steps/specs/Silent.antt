@@ -8,24 +8,24 @@ use Rattle.stack_code.specs.Validity.{is_step, is_call}
 use Rattle.machine_steps.specs.declared.acted.Acted.{Acted}
 use Rattle.machine_steps.specs.declared.acted.Acted.TheVariants as did
 use Rattle.machine_steps.specs.declared.running.Running.{Running}
-use Rattle.machine_steps.specs.Moments.{state_of}
+use Rattle.machine_steps.specs.States.{state_of}
 use Rattle.machine_steps.specs.Progress.{at}
 use Rattle.machine_steps.specs.Carried.{Onward}
 use Rattle.machine_steps.specs.Local.{is_local}
 
--- the run goes on from one moment of the algorithm to the next, whichever calls wait and inputs are left
+-- the run goes on from one state of the algorithm to the next, whichever calls wait and inputs are left
 abbrev pub GoesOn : List CodeUnit → Acted → Running → Running → Type 0
 GoesOn units acted old new = (frames : List Frame) (inputs : List Value) → Onward units (at (state_of old frames) inputs) acted (at (state_of new frames) inputs)
 
 -- it stands at an instruction that concerns more than the algorithm alone
-abbrev pub Stands : CodeUnit → ℕ → Type 0
-Stands u pc = (l : CodeLine) × (slice_get u.body pc ≡ Some l) × (is_local l.what ≡ false)
+abbrev pub IsAtNonLocal : CodeUnit → ℕ → Type 0
+IsAtNonLocal u pc = (l : CodeLine) × (slice_get u.body pc ≡ Some l) × (is_local l.what ≡ false)
 
-abbrev pub StandsAt : CodeUnit → Acted → Running → Type 0
-StandsAt u did.Moved r = Stands u r.pc
-StandsAt u (did.Printed text) r = Unit {0}
-StandsAt u (did.Told command) r = Unit {0}
-StandsAt u (did.Over end) r = Unit {0}
+abbrev pub MovedToNonLocal : CodeUnit → Acted → Running → Type 0
+MovedToNonLocal u did.Moved r = IsAtNonLocal u r.pc
+MovedToNonLocal u (did.Printed text) r = Unit {0}
+MovedToNonLocal u (did.Told command) r = Unit {0}
+MovedToNonLocal u (did.Over end) r = Unit {0}
 
 -- where it did not stand at a call, it does not stand at one now
 abbrev pub KeepsPast : CodeUnit → Acted → Running → Running → Type 0

@@ -12,12 +12,12 @@ use Rattle.machine_steps.specs.declared.stage.Stage.{Stage}
 use Rattle.machine_steps.specs.declared.stage.Question.{Question}
 use Rattle.machine_steps.specs.declared.stage.Stop.{Stop}
 use Rattle.machine_steps.specs.declared.stage.Stop.TheVariants as stop
-use Rattle.machine_steps.specs.Progress.{Moment, at, Comes}
+use Rattle.machine_steps.specs.Progress.{FullState, at, StepsTo}
 use Rattle.machine_steps.specs.Carried.{EndsIn}
 use Rattle.machine_steps.specs.Frames.{state_in, IsEntered, IsPastCalls, Waits}
 
-abbrev pub moment_of : List CodeUnit → Stage → Moment
-moment_of units s = at (state_in units s.running s.waiting.items) (drop s.taken s.inputs)
+abbrev pub full_state_of : List CodeUnit → Stage → FullState
+full_state_of units s = at (state_in units s.running s.waiting.items) (drop s.taken s.inputs)
 
 -- what holds of a stage in valid code
 pub record IsStage (units : List CodeUnit) (s : Stage) : Type 0 where
@@ -26,30 +26,30 @@ pub record IsStage (units : List CodeUnit) (s : Stage) : Type 0 where
   pub waits : All (Waits units) s.waiting.items
 
 -- the next instruction
-abbrev pub IsNext : List CodeUnit → Instruction → ℕ → Moment → Type 0
-IsNext units i line a = slice_get (unit_at units a.state.unit).body a.state.pc ≡ Some (record { line = line; what = i })
+abbrev pub IsNextInstruction : List CodeUnit → Instruction → ℕ → FullState → Type 0
+IsNextInstruction units i line a = slice_get (unit_at units a.state.unit).body a.state.pc ≡ Some (record { line = line; what = i })
 
 -- a step is needed next
-abbrev pub NeedsStep : List CodeUnit → Moment → Type 0
-NeedsStep units a = (line : ℕ) × IsNext units code.Step line a
+abbrev pub NeedsStep : List CodeUnit → FullState → Type 0
+NeedsStep units a = (line : ℕ) × IsNextInstruction units code.Step line a
 
 -- a command of the Robot is sent next
-abbrev pub Asks : List CodeUnit → Question → Moment → Type 0
-Asks units q a = IsNext units (code.Ask (shape.Robot q.command)) q.line a
+abbrev pub AsksNext : List CodeUnit → Question → FullState → Type 0
+AsksNext units q a = IsNextInstruction units (code.Ask (shape.Robot q.command)) q.line a
 
--- from the first moment the run comes to the second, where it stops: it printed, told the Draughtsman, needs a step, sends a
+-- the run steps from the first state to the second, where it stops: it printed, told the Draughtsman, needs a step, sends a
 -- command of the Robot, or it ends before
-abbrev pub Stops : List CodeUnit → Moment → Stop → Moment → Type 0
-Stops units a (stop.Printed text) b = Comes units a 0 [] (Printed text ∷ []) b
-Stops units a (stop.Told command) b = Comes units a 0 [] (Sent (Pen command) ∷ []) b
+abbrev pub Stops : List CodeUnit → FullState → Stop → FullState → Type 0
+Stops units a (stop.Printed text) b = StepsTo units a 0 [] (Printed text ∷ []) b
+Stops units a (stop.Told command) b = StepsTo units a 0 [] (Sent (Pen command) ∷ []) b
 Stops units a (stop.Over end) b = (state : RunState) × (end_of state ≡ Some end) × EndsIn units a state
-Stops units a stop.Step b = Comes units a 0 [] [] b × NeedsStep units b
-Stops units a (stop.Asks q) b = Comes units a 0 [] [] b × Asks units q b
+Stops units a stop.Step b = StepsTo units a 0 [] [] b × NeedsStep units b
+Stops units a (stop.Asks q) b = StepsTo units a 0 [] [] b × AsksNext units q b
 
 -- the same, or it goes on
-abbrev pub Turns : List CodeUnit → Moment → Option Stop → Moment → Type 0
-Turns units a None b = Comes units a 0 [] [] b
-Turns units a (Some s) b = Stops units a s b
+abbrev pub StopsOrGoesOn : List CodeUnit → FullState → Option Stop → FullState → Type 0
+StopsOrGoesOn units a None b = StepsTo units a 0 [] [] b
+StopsOrGoesOn units a (Some s) b = Stops units a s b
 
 -- an end, as a stop
 abbrev pub as_stop : Option EndKind → Option Stop

@@ -4,9 +4,9 @@ ghost use Rattle.kumir_meaning.specs.Store as store;
 ghost use Rattle.kumir_meaning.specs.Algorithms.{table_for};
 ghost use Rattle.kumir_meaning.specs.Runs.{usual};
 ghost use Rattle.stack_code.specs.CodeState.{Plain, top, rest, with_slot, no_slots};
-ghost use Rattle.stack_code.specs.Instructions.{takes_value, values_taken, table_of, receives_table, receives, receives_all};
-ghost use Rattle.machine_steps.specs.Moments.{table_map, slots_of};
-ghost use Rattle.machine_steps.specs.Calls.{Receives, IsSameBut, Begins};
+ghost use Rattle.stack_code.specs.Instructions.{takes_value, values_taken, table_of, fills_with_table, fills_slot, fills_slots};
+ghost use Rattle.machine_steps.specs.States.{table_map, slots_of};
+ghost use Rattle.machine_steps.specs.Calls.{Receives, IsSameBut, BeginsAs};
 
 use crate::held::{Cell, Held};
 use crate::running::Running;
@@ -15,7 +15,7 @@ use km_base::Memory;
 use km_base::limits::TABLE_ELEMENTS;
 use kumir_tree::Mode;
 use kumir_values::{RunFault, Table, Value};
-use stack_code::{CallPlace, CodeUnit, ParamSlot};
+use stack_code::{CallPlace, CodeUnit, ParamSlot, takes_operand};
 use std::alloc::Global;
 
 /// The first of these values; `нет` where there is none.
@@ -38,20 +38,6 @@ fn others(values: &[Value]) -> &[Value]
     }
 }
 
-/// Whether a parameter takes an operand.
-fn takes_operand(mode: Mode, place: &CallPlace) -> bool
-    ensures { result ≡ takes_value mode place.now }
-{
-    match place {
-        CallPlace::Value => true,
-        CallPlace::Table(_) => false,
-        CallPlace::Slot(_) | CallPlace::Element(_, _) => match mode {
-            Mode::Arg | Mode::ArgRes => true,
-            Mode::Res => false,
-        },
-    }
-}
-
 /// The slot of the caller's table, where a table is passed.
 fn table_slot(place: &CallPlace) -> Option<u32>
     ensures { result ≡ table_of place.now }
@@ -70,7 +56,7 @@ fn count_one(mode: Mode, place: &CallPlace) -> usize
 }
 
 /// How many operands a call takes.
-#[tactic(auto, using(crate::proofs::Calling::counted_one, crate::proofs::Calling::counted_all))]
+#[tactic(auto, using(crate::proofs::PassedParams::counted_one, crate::proofs::PassedParams::counted_all))]
 pub fn count_operands(params: &[ParamSlot], places: &[CallPlace]) -> usize
     ensures { result ≡ values_taken params.now places.now }
 {
@@ -107,7 +93,7 @@ fn receive_table(
     table: &Table,
 ) -> Result<Result<(), RunFault>, Memory>
     requires there { param.slot < length begun.old.slots }
-    ensures received { IfOk result (λ done. Receives (receives_table usual.room param (store.Holds (table_map table.now)) (slots_of begun.old.slots, begun.old.used)) done begun.new) }
+    ensures received { IfOk result (λ done. Receives (fills_with_table usual.room param (store.Holds (table_map table.now)) (slots_of begun.old.slots, begun.old.used)) done begun.new) }
     ensures kept { IsSameBut begun.old begun.new }
 {
     let size = table.size();
@@ -143,7 +129,7 @@ fn receive(
     slots: &Slots,
 ) -> Result<Result<(), RunFault>, Memory>
     requires there { param.slot < length begun.old.slots }
-    ensures received { IfOk result (λ done. Receives (receives usual.room param (table_of place.now) (takes_value param.mode place.now) values.now (slots_of slots.now) (slots_of begun.old.slots, begun.old.used)) done begun.new) }
+    ensures received { IfOk result (λ done. Receives (fills_slot usual.room param (table_of place.now) (takes_value param.mode place.now) values.now (slots_of slots.now) (slots_of begun.old.slots, begun.old.used)) done begun.new) }
     ensures kept { IsSameBut begun.old begun.new }
 {
     match table_slot(place) {
@@ -179,7 +165,7 @@ fn receive_all(
     slots: &Slots,
 ) -> Result<Result<(), RunFault>, Memory>
     requires { All (λ p. p.slot < length begun.old.slots) params.now }
-    ensures received { IfOk result (λ done. Receives (receives_all usual.room params.now places.now values.now (slots_of slots.now) (slots_of begun.old.slots, begun.old.used)) done begun.new) }
+    ensures received { IfOk result (λ done. Receives (fills_slots usual.room params.now places.now values.now (slots_of slots.now) (slots_of begun.old.slots, begun.old.used)) done begun.new) }
     ensures kept { IsSameBut begun.old begun.new }
 {
     let mut left = values;
@@ -201,7 +187,7 @@ pub fn begin_call(
     caller: &Running,
 ) -> Result<Result<Running, RunFault>, Memory>
     requires { All (λ p. p.slot < length callee.now.slots) callee.now.params }
-    ensures { IfOk result (λ begun. Begins (receives_all usual.room callee.now.params places.now (reverse (take (values_taken callee.now.params places.now) caller.now.operands)) (slots_of caller.now.slots) (no_slots, caller.now.used)) begun number (length callee.now.slots)) }
+    ensures { IfOk result (λ begun. BeginsAs (fills_slots usual.room callee.now.params places.now (reverse (take (values_taken callee.now.params places.now) caller.now.operands)) (slots_of caller.now.slots) (no_slots, caller.now.used)) begun number (length callee.now.slots)) }
 {
     let params = callee.params.as_slice();
     let count = count_operands(params, places);

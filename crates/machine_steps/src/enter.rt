@@ -1,21 +1,20 @@
 //! Calls and returns: the algorithms that are entered one inside another.
 ghost use Rattle.std.specs.Prelude.{◌≡◌, ◌<◌, ◌-◌, ◌+◌, ◌^◌, ◌++◌, ◌∷◌, [], length, All, IfOk, IfNone, OnOk, MatchOption};
 ghost use Rattle.kumir_meaning.specs.Runs.{usual};
-ghost use Rattle.stack_code.specs.Instructions.{unit_at, calls, copied_out, acts};
+ghost use Rattle.stack_code.specs.Instructions.{unit_at, enters_unit, copied_to_places, event_of};
 ghost use Rattle.stack_code.specs.declared.instruction.Instruction.TheVariants as code;
 ghost use Rattle.machine_steps.specs.Acting.{Acts, ended};
-ghost use Rattle.machine_steps.specs.Moments.{slots_of};
+ghost use Rattle.machine_steps.specs.States.{slots_of};
 ghost use Rattle.machine_steps.specs.Returns.{pushed};
-ghost use Rattle.machine_steps.specs.Frames.{behind, places_in, line_of, state_in, IsCallAt, AllValid, IsEntered, IsPastCalls, Waits};
+ghost use Rattle.machine_steps.specs.Frames.{behind_call, places_in, line_of, state_in, IsCallAt, AllValid, IsEntered, IsPastCalls, Waits};
 
 use crate::calls::{begin_call, count_operands};
 use crate::returns::{answer_of, copy_out};
 use crate::running::Running;
-use crate::silent::line_at;
 use km_base::Memory;
 use km_base::limits::CALL_DEPTH;
 use kumir_values::{EndKind, RunFault, Value};
-use stack_code::{CallPlace, CodeUnit, Instruction, ParamSlot};
+use stack_code::{CallPlace, CodeUnit, Instruction, ParamSlot, line_at};
 use std::alloc::{AllocError, Global};
 use std::mem;
 
@@ -28,7 +27,7 @@ fn step_aside(
 ) -> Result<(), AllocError>
     requires { running.old.pc + 1 < 2 ^ 64 }
     ensures running { OnOk result (running.new ≡ begun) }
-    ensures waiting { OnOk result (waiting.new.items ≡ waiting.old.items ++ behind running.old count ∷ []) }
+    ensures waiting { OnOk result (waiting.new.items ≡ waiting.old.items ++ behind_call running.old count ∷ []) }
 {
     running.operands.discard(count);
     running.pc += 1;
@@ -59,7 +58,7 @@ pub fn enter(
     requires call { IsCallAt (line_of units.now running.old running.old.pc) number places.now }
     requires room { running.old.pc + 1 < 2 ^ 64 }
     requires waits { All (Waits units.now) waiting.old.items }
-    ensures acts { IfOk result (λ end. Acts (calls usual (unit_at units.now number) number places.now line (state_in units.now running.old waiting.old.items)) (ended end) (state_in units.now running.new waiting.new.items)) }
+    ensures acts { IfOk result (λ end. Acts (enters_unit usual (unit_at units.now number) number places.now line (state_in units.now running.old waiting.old.items)) (ended end) (state_in units.now running.new waiting.new.items)) }
     ensures here { IfOk result (λ end. IfNone end (IsEntered units.now running.new)) }
     ensures past { IfOk result (λ end. IfNone end (IsPastCalls units.now running.new)) }
     ensures waits { IfOk result (λ end. IfNone end (All (Waits units.now) waiting.new.items)) }
@@ -111,7 +110,7 @@ fn go_back(
     ensures unit { OnOk result (running.new.unit ≡ caller.unit) }
     ensures place { OnOk result (running.new.pc ≡ caller.pc) }
     ensures operands { OnOk result (running.new.operands ≡ pushed answer caller.operands) }
-    ensures slots { OnOk result (slots_of running.new.slots ≡ copied_out params.now (places_in (line_of units.now caller (caller.pc - 1))) (slots_of running.old.slots) (slots_of caller.slots)) }
+    ensures slots { OnOk result (slots_of running.new.slots ≡ copied_to_places params.now (places_in (line_of units.now caller (caller.pc - 1))) (slots_of running.old.slots) (slots_of caller.slots)) }
     ensures count { OnOk result (length running.new.slots ≡ length caller.slots) }
     ensures used { OnOk result (running.new.used ≡ caller.used) }
 {
@@ -135,7 +134,7 @@ pub fn leave(
     requires valid { AllValid units.now }
     requires here { IsEntered units.now running.old }
     requires waits { All (Waits units.now) waiting.old.items }
-    ensures acts { IfOk result (λ end. Acts (acts usual units.now code.Return line (state_in units.now running.old waiting.old.items)) (ended end) (state_in units.now running.new waiting.new.items)) }
+    ensures acts { IfOk result (λ end. Acts (event_of usual units.now code.Return line (state_in units.now running.old waiting.old.items)) (ended end) (state_in units.now running.new waiting.new.items)) }
     ensures here { IfOk result (λ end. IfNone end (IsEntered units.now running.new)) }
     ensures past { IfOk result (λ end. IfNone end (IsPastCalls units.now running.new)) }
     ensures waits { IfOk result (λ end. IfNone end (All (Waits units.now) waiting.new.items)) }

@@ -6,7 +6,7 @@ ghost use Rattle.kumir_values.specs.Tables.{is_of_kind};
 ghost use Rattle.kumir_meaning.specs.Store as store;
 ghost use Rattle.kumir_meaning.specs.Store.{element, checked, fitted, same_bounds, with_element, elements_in};
 ghost use Rattle.stack_code.specs.CodeState.{paired};
-ghost use Rattle.machine_steps.specs.Moments.{table_map, cell_of};
+ghost use Rattle.machine_steps.specs.States.{table_map, cell_view};
 ghost use Rattle.machine_steps.specs.Grids.{IsFine};
 
 use crate::held::Cell;
@@ -14,7 +14,7 @@ use kumir_tree::Kind;
 use kumir_values::{Bound, RunFault, Table, Value};
 
 /// The element of a table: `Index` outside its bounds, `Unset` where it has no value.
-#[tactic(auto, using(crate::proofs::Grids::other_length))]
+#[tactic(auto, using(crate::proofs::TableChecks::other_length))]
 pub fn element_of(table: &Table, index: &[i32]) -> Result<Value, RunFault>
     ensures { result ≡ element (store.Holds (table_map table.now)) index.now }
 {
@@ -26,7 +26,7 @@ pub fn element_of(table: &Table, index: &[i32]) -> Result<Value, RunFault>
 
 /// The element of what a variable holds; `Unset` where it is no table.
 pub fn element_in(cell: &Cell, index: &[i32]) -> Result<Value, RunFault>
-    ensures { result ≡ element (cell_of cell.now) index.now }
+    ensures { result ≡ element (cell_view cell.now) index.now }
 {
     match cell {
         Cell::Holds(table) => element_of(table, index),
@@ -46,7 +46,7 @@ pub fn is_inside(table: &Table, index: &[i32]) -> bool
 
 /// Checks the indexes of an element: `Unset` where there is no table, `Index` outside its bounds.
 pub fn check_in(cell: &Cell, index: &[i32]) -> Result<(), RunFault>
-    ensures { IsFine (checked (cell_of cell.now) index.now) result }
+    ensures { IsFine (checked (cell_view cell.now) index.now) result }
 {
     match cell {
         Cell::Holds(table) => {
@@ -68,7 +68,7 @@ fn has_ends(bound: Bound, low: i32, high: i32) -> bool
 }
 
 /// Whether the bounds are these numbers in pairs; a last number alone is left out.
-#[tactic(auto, using(crate::proofs::Pairs::other_count, crate::proofs::Pairs::differs, crate::proofs::Pairs::agrees, crate::proofs::Pairs::none_behind))]
+#[tactic(auto, using(crate::proofs::BoundPairs::other_count, crate::proofs::BoundPairs::differs, crate::proofs::BoundPairs::agrees, crate::proofs::BoundPairs::none_behind))]
 fn are_bounds(bounds: &[Bound], ends: &[i32]) -> bool
     ensures { result ≡ same_bounds bounds.now (paired ends.now) }
 {
@@ -87,7 +87,7 @@ fn are_bounds(bounds: &[Bound], ends: &[i32]) -> bool
 
 /// Compares the bounds of a table with numbers in pairs: `Unset` where there is no table, `Bounds` where they differ.
 pub fn fit_in(cell: &Cell, ends: &[i32]) -> Result<(), RunFault>
-    ensures { IsFine (fitted (cell_of cell.now) (paired ends.now)) result }
+    ensures { IsFine (fitted (cell_view cell.now) (paired ends.now)) result }
 {
     match cell {
         Cell::Holds(table) => {
@@ -103,7 +103,7 @@ pub fn fit_in(cell: &Cell, ends: &[i32]) -> Result<(), RunFault>
 
 /// How many elements a variable has.
 pub fn size_of(cell: &Cell) -> u32
-    ensures { result ≡ elements_in (cell_of cell.now) }
+    ensures { result ≡ elements_in (cell_view cell.now) }
 {
     match cell {
         Cell::Holds(table) => table.size(),
@@ -123,7 +123,7 @@ fn can_take(kind: Kind, value: Option<Value>) -> bool
 }
 
 /// Gives an element of a table a value, or takes it away, where the table can take it.
-#[tactic(auto, using(crate::proofs::Grids::other_length, crate::proofs::Grids::outside_kept, crate::proofs::Grids::other_kind_kept))]
+#[tactic(auto, using(crate::proofs::TableChecks::other_length, crate::proofs::TableChecks::outside_kept, crate::proofs::TableChecks::other_kind_kept))]
 fn change(table: &mut Table, index: &[i32], value: Option<Value>)
     ensures { store.Holds (table_map table.new) ≡ with_element (store.Holds (table_map table.old)) index.now value }
 {
@@ -144,7 +144,7 @@ fn change(table: &mut Table, index: &[i32], value: Option<Value>)
 
 /// Gives an element of what a variable holds a value, or takes it away.
 pub fn put_element(cell: &mut Cell, index: &[i32], value: Option<Value>)
-    ensures { cell_of cell.new ≡ with_element (cell_of cell.old) index.now value }
+    ensures { cell_view cell.new ≡ with_element (cell_view cell.old) index.now value }
 {
     match cell {
         Cell::Holds(table) => change(table, index, value),

@@ -5,7 +5,6 @@ mod acted;
 mod calls;
 mod carrying;
 mod enter;
-mod going;
 mod grid;
 mod held;
 mod laws;
@@ -21,6 +20,7 @@ mod silent;
 mod slots;
 mod stage;
 mod steps;
+mod stops;
 mod tables;
 mod values;
 
@@ -28,8 +28,8 @@ pub use acted::Acted;
 pub use carrying::carry_out;
 pub use held::{Cell, Held, Turns};
 pub use laws::{
-    acts_so_far_begin_the_run, coming_joins, each_event_comes, last_event_ends_the_run,
-    valid_lines_fit, what_is_carried_out_comes,
+    acts_so_far_are_a_prefix, each_event_steps_to, last_event_ends_the_run, steps_join,
+    valid_lines_fit, what_is_carried_out_steps_to,
 };
 pub use operands::Operands;
 pub use replies::take_reply;

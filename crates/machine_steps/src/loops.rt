@@ -2,9 +2,9 @@
 ghost use Rattle.std.specs.Prelude.{◌≡◌, ◌<◌, ◌+◌, ◌^◌, ◌+ℤ◌, [], length, true, false, Some, None, IfOk, IfSome};
 ghost use Rattle.kumir_meaning.specs.Loops.{past};
 ghost use Rattle.kumir_meaning.specs.Runs.{usual};
-ghost use Rattle.stack_code.specs.Instructions.{acts, set_variable};
+ghost use Rattle.stack_code.specs.Instructions.{event_of, set_variable};
 ghost use Rattle.stack_code.specs.declared.instruction.Instruction.TheVariants as code;
-ghost use Rattle.machine_steps.specs.Moments.{state_of, slots_of};
+ghost use Rattle.machine_steps.specs.States.{state_of, slots_of};
 ghost use Rattle.machine_steps.specs.Acting.{Carries};
 ghost use Rattle.machine_steps.specs.Loops.{IsNear, turned};
 
@@ -20,7 +20,7 @@ use kumir_values::{EndKind, RunFault, Value};
 pub fn begin_times(running: &mut Running, slot: u32) -> Result<Acted, Memory>
     requires there { slot < length running.old.slots }
     requires room { running.old.pc + 1 < 2 ^ 64 }
-    ensures acts { IfOk result (λ acted. Carries (λ frames. acts usual [] (code.Times slot) 0 (state_of running.old frames)) acted running.new) }
+    ensures acts { IfOk result (λ acted. Carries (λ frames. event_of usual [] (code.Times slot) 0 (state_of running.old frames)) acted running.new) }
     ensures count { length running.new.slots ≡ length running.old.slots }
 {
     let count = turns_asked(running.operands.pop());
@@ -52,7 +52,7 @@ fn further(next: i64, last: i32, step: i32) -> i64
 }
 
 /// One step behind a number that is not past the last one is near.
-#[tactic(auto, using(crate::proofs::Turning::near_next))]
+#[tactic(auto, using(crate::proofs::LoopTurns::near_next))]
 fn stays_near(next: i64, last: i32, step: i32, following: i64)
     requires near { IsNear next step }
     requires before { past next last step ≡ false }
@@ -85,11 +85,11 @@ fn number_of_turn(numbers: Numbers) -> i32
 }
 
 /// Pops the first number of a loop, the last one and the step into a slot.
-#[tactic(auto, using(crate::proofs::Stacks::three_left))]
+#[tactic(auto, using(crate::proofs::OperandLists::three_left))]
 pub fn begin_turns(running: &mut Running, slot: u32, line: u32) -> Result<Acted, Memory>
     requires there { slot < length running.old.slots }
     requires room { running.old.pc + 1 < 2 ^ 64 }
-    ensures acts { IfOk result (λ acted. Carries (λ frames. acts usual [] (code.Turns slot) line (state_of running.old frames)) acted running.new) }
+    ensures acts { IfOk result (λ acted. Carries (λ frames. event_of usual [] (code.Turns slot) line (state_of running.old frames)) acted running.new) }
     ensures count { length running.new.slots ≡ length running.old.slots }
 {
     let step = number_in(running.operands.pop());
@@ -130,7 +130,7 @@ fn set_number(slots: &mut Slots, variable: Option<u32>, number: i32)
 }
 
 /// One turn of a loop, if one is left; else nothing changes.
-#[tactic(auto, using(crate::proofs::Turning::turn_none, crate::proofs::Turning::turn_zero, crate::proofs::Turning::turn_left, crate::proofs::Turning::turn_past, crate::proofs::Turning::turn_number))]
+#[tactic(auto, using(crate::proofs::LoopTurns::turn_none, crate::proofs::LoopTurns::turn_zero, crate::proofs::LoopTurns::turn_left, crate::proofs::LoopTurns::turn_past, crate::proofs::LoopTurns::turn_number))]
 fn turn(slots: &mut Slots, slot: u32, variable: Option<u32>) -> bool
     requires there { slot < length slots.old }
     requires variable { IfSome variable (λ v. v < length slots.old) }
@@ -160,7 +160,7 @@ fn turn(slots: &mut Slots, slot: u32, variable: Option<u32>) -> bool
 }
 
 /// The next turn of a loop, or the place behind it.
-#[tactic(auto, using(crate::proofs::Turning::goes_on, crate::proofs::Turning::goes_away))]
+#[tactic(auto, using(crate::proofs::LoopTurns::goes_on, crate::proofs::LoopTurns::goes_away))]
 pub fn next_turn(
     running: &mut Running,
     slot: u32,
@@ -170,7 +170,7 @@ pub fn next_turn(
     requires room { running.old.pc + 1 < 2 ^ 64 }
     requires there { slot < length running.old.slots }
     requires variable { IfSome variable (λ v. v < length running.old.slots) }
-    ensures acts { IfOk result (λ acted. Carries (λ frames. acts usual [] (code.Next slot variable place) 0 (state_of running.old frames)) acted running.new) }
+    ensures acts { IfOk result (λ acted. Carries (λ frames. event_of usual [] (code.Next slot variable place) 0 (state_of running.old frames)) acted running.new) }
     ensures count { length running.new.slots ≡ length running.old.slots }
 {
     if turn(&mut running.slots, slot, variable) {

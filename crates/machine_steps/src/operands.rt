@@ -25,7 +25,7 @@ fn numbers_in(alloc: Global, values: &[Value]) -> Result<Numbers, AllocError>
 }
 
 /// The numbers of values in pairs, as bounds; a last one alone is left out.
-#[tactic(auto, using(crate::proofs::Pairs::one_more_pair, crate::proofs::Pairs::all_pairs))]
+#[tactic(auto, using(crate::proofs::BoundPairs::one_more_pair, crate::proofs::BoundPairs::all_pairs))]
 fn bounds_in(alloc: Global, values: &[Value]) -> Result<Vec<Bound>, AllocError>
     ensures { IfOk result (λ found. found.items ≡ paired (map number_of values.now)) }
 {

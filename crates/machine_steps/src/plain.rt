@@ -2,20 +2,20 @@
 ghost use Rattle.std.specs.Prelude.{◌≡◌, ◌<◌, ◌+◌, ◌^◌, ◌∷◌, [], List, Ok, not, IfOk, reverse, take, drop, length};
 ghost use Rattle.kumir_meaning.specs.Operators.{combined, negated, applied, is_yes};
 ghost use Rattle.stack_code.specs.CodeState.{top, rest, next};
-ghost use Rattle.stack_code.specs.Instructions.{gives, operates, applies, acts, Go};
+ghost use Rattle.stack_code.specs.Instructions.{pushes_result, operates, applies, event_of, Go};
 ghost use Rattle.stack_code.specs.declared.instruction.Instruction.TheVariants as code;
 ghost use Rattle.kumir_meaning.specs.Runs.{usual};
 ghost use Rattle.kumir_values.specs.declared.value.Value.TheVariants as Value;
-ghost use Rattle.machine_steps.specs.Moments.{state_of, slots_of};
+ghost use Rattle.machine_steps.specs.States.{state_of, slots_of};
 ghost use Rattle.machine_steps.specs.Acting.{Carries};
-ghost use Rattle.machine_steps.specs.Moments.{built_in_of};
 
 use crate::acted::Acted;
 use crate::held::{Cell, Held};
 use crate::operands::Operands;
 use crate::running::Running;
-use crate::values::{BuiltIn, apply_to, combine, is_yes_value, negate};
+use crate::values::{apply_to, combine, is_yes_value, negate};
 use km_base::Memory;
+use kumir_names::BuiltIn;
 use kumir_tree::Op;
 use kumir_values::{EndKind, RunFault, Value};
 
@@ -26,7 +26,7 @@ pub fn push_or_end(
     got: Result<Value, RunFault>,
 ) -> Result<Acted, Memory>
     requires { running.old.pc + 1 < 2 ^ 64 }
-    ensures acts { IfOk result (λ acted. Carries (λ frames. gives got line (state_of running.old frames) running.old.operands) acted running.new) }
+    ensures acts { IfOk result (λ acted. Carries (λ frames. pushes_result got line (state_of running.old frames) running.old.operands) acted running.new) }
     ensures count { length running.new.slots ≡ length running.old.slots }
 {
     match got {
@@ -70,7 +70,7 @@ fn take_negated(operands: &mut Operands) -> Result<Value, RunFault>
 /// The operand on top with the other sign.
 pub fn negate_top(running: &mut Running, line: u32) -> Result<Acted, Memory>
     requires { running.old.pc + 1 < 2 ^ 64 }
-    ensures acts { IfOk result (λ acted. Carries (λ frames. acts usual [] code.Neg line (state_of running.old frames)) acted running.new) }
+    ensures acts { IfOk result (λ acted. Carries (λ frames. event_of usual [] code.Neg line (state_of running.old frames)) acted running.new) }
     ensures count { length running.new.slots ≡ length running.old.slots }
 {
     let got = take_negated(&mut running.operands);
@@ -79,7 +79,7 @@ pub fn negate_top(running: &mut Running, line: u32) -> Result<Acted, Memory>
 
 /// A built-in algorithm on the operands on top.
 fn apply_top(operands: &mut Operands, what: BuiltIn, count: usize) -> Result<Value, RunFault>
-    ensures got { result ≡ applied (built_in_of what) (reverse (take count operands.old)) }
+    ensures got { result ≡ applied what (reverse (take count operands.old)) }
     ensures left { operands.new ≡ drop count operands.old }
 {
     let got = apply_to(what, operands.last(count));
@@ -90,7 +90,7 @@ fn apply_top(operands: &mut Operands, what: BuiltIn, count: usize) -> Result<Val
 /// A built-in algorithm on the operands on top.
 pub fn apply(running: &mut Running, what: BuiltIn, count: usize, line: u32) -> Result<Acted, Memory>
     requires { running.old.pc + 1 < 2 ^ 64 }
-    ensures acts { IfOk result (λ acted. Carries (λ frames. applies (built_in_of what) count line (state_of running.old frames)) acted running.new) }
+    ensures acts { IfOk result (λ acted. Carries (λ frames. applies what count line (state_of running.old frames)) acted running.new) }
     ensures count { length running.new.slots ≡ length running.old.slots }
 {
     let got = apply_top(&mut running.operands, what, count);
@@ -130,7 +130,7 @@ fn take_not(operands: &mut Operands) -> Result<Value, RunFault>
 /// `не` of the operand on top.
 pub fn negate_truth(running: &mut Running, line: u32) -> Result<Acted, Memory>
     requires { running.old.pc + 1 < 2 ^ 64 }
-    ensures acts { IfOk result (λ acted. Carries (λ frames. acts usual [] code.Not line (state_of running.old frames)) acted running.new) }
+    ensures acts { IfOk result (λ acted. Carries (λ frames. event_of usual [] code.Not line (state_of running.old frames)) acted running.new) }
     ensures count { length running.new.slots ≡ length running.old.slots }
 {
     let got = take_not(&mut running.operands);
@@ -140,7 +140,7 @@ pub fn negate_truth(running: &mut Running, line: u32) -> Result<Acted, Memory>
 /// Pushes the value of a slot, or `unset`.
 pub fn load(running: &mut Running, slot: u32, line: u32) -> Result<Acted, Memory>
     requires { running.old.pc + 1 < 2 ^ 64 }
-    ensures acts { IfOk result (λ acted. Carries (λ frames. acts usual [] (code.Load slot) line (state_of running.old frames)) acted running.new) }
+    ensures acts { IfOk result (λ acted. Carries (λ frames. event_of usual [] (code.Load slot) line (state_of running.old frames)) acted running.new) }
     ensures count { length running.new.slots ≡ length running.old.slots }
 {
     let value = running.slots.read(slot);
@@ -151,7 +151,7 @@ pub fn load(running: &mut Running, slot: u32, line: u32) -> Result<Acted, Memory
 pub fn store(running: &mut Running, slot: u32) -> Result<Acted, Memory>
     requires room { running.old.pc + 1 < 2 ^ 64 }
     requires there { slot < length running.old.slots }
-    ensures acts { IfOk result (λ acted. Carries (λ frames. acts usual [] (code.Store slot) 0 (state_of running.old frames)) acted running.new) }
+    ensures acts { IfOk result (λ acted. Carries (λ frames. event_of usual [] (code.Store slot) 0 (state_of running.old frames)) acted running.new) }
     ensures count { length running.new.slots ≡ length running.old.slots }
 {
     let value = running.operands.pop();
@@ -164,7 +164,7 @@ pub fn store(running: &mut Running, slot: u32) -> Result<Acted, Memory>
 pub fn clear(running: &mut Running, slot: u32) -> Result<Acted, Memory>
     requires room { running.old.pc + 1 < 2 ^ 64 }
     requires there { slot < length running.old.slots }
-    ensures acts { IfOk result (λ acted. Carries (λ frames. acts usual [] (code.Clear slot) 0 (state_of running.old frames)) acted running.new) }
+    ensures acts { IfOk result (λ acted. Carries (λ frames. event_of usual [] (code.Clear slot) 0 (state_of running.old frames)) acted running.new) }
     ensures count { length running.new.slots ≡ length running.old.slots }
 {
     running.slots.put(slot, Held::Plain(Cell::Empty));
@@ -174,7 +174,7 @@ pub fn clear(running: &mut Running, slot: u32) -> Result<Acted, Memory>
 
 /// Goes to a place.
 pub fn jump(running: &mut Running, place: u32) -> Result<Acted, Memory>
-    ensures acts { IfOk result (λ acted. Carries (λ frames. acts usual [] (code.Jump place) 0 (state_of running.old frames)) acted running.new) }
+    ensures acts { IfOk result (λ acted. Carries (λ frames. event_of usual [] (code.Jump place) 0 (state_of running.old frames)) acted running.new) }
     ensures count { length running.new.slots ≡ length running.old.slots }
 {
     running.pc = place as usize;
@@ -184,7 +184,7 @@ pub fn jump(running: &mut Running, place: u32) -> Result<Acted, Memory>
 /// Pops a truth value, and goes to a place on `нет`.
 pub fn jump_on_no(running: &mut Running, place: u32) -> Result<Acted, Memory>
     requires { running.old.pc + 1 < 2 ^ 64 }
-    ensures acts { IfOk result (λ acted. Carries (λ frames. acts usual [] (code.JumpNo place) 0 (state_of running.old frames)) acted running.new) }
+    ensures acts { IfOk result (λ acted. Carries (λ frames. event_of usual [] (code.JumpNo place) 0 (state_of running.old frames)) acted running.new) }
     ensures count { length running.new.slots ≡ length running.old.slots }
 {
     if is_yes_value(running.operands.pop()) {
@@ -198,7 +198,7 @@ pub fn jump_on_no(running: &mut Running, place: u32) -> Result<Acted, Memory>
 /// Pops a truth value; `нет` ends the run.
 pub fn assert_top(running: &mut Running, line: u32) -> Result<Acted, Memory>
     requires { running.old.pc + 1 < 2 ^ 64 }
-    ensures acts { IfOk result (λ acted. Carries (λ frames. acts usual [] code.Assert line (state_of running.old frames)) acted running.new) }
+    ensures acts { IfOk result (λ acted. Carries (λ frames. event_of usual [] code.Assert line (state_of running.old frames)) acted running.new) }
     ensures count { length running.new.slots ≡ length running.old.slots }
 {
     if is_yes_value(running.operands.pop()) {

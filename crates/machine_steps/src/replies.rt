@@ -1,42 +1,17 @@
 //! The reply to a command of the Robot.
 ghost use Rattle.std.specs.Prelude.{◌≡◌, ◌∷◌, ◌+◌, ◌<◌, ◌^◌, true, false, IfOk, IfNone, OnOk};
 ghost use Rattle.kumir_meaning.specs.Runs.{reply_value, is_wall};
-ghost use Rattle.stack_code.specs.Instructions.{is_test};
 ghost use Rattle.machine_steps.specs.Frames.{AllValid, IsEntered};
-ghost use Rattle.machine_steps.specs.Stages.{moment_of, IsStage, Asks};
-ghost use Rattle.machine_steps.specs.Replying.{IsAtLine, with_answer, Answers};
+ghost use Rattle.machine_steps.specs.Stages.{full_state_of, IsStage, AsksNext};
+ghost use Rattle.machine_steps.specs.Replying.{IsAtLine, with_reply_value, Answers};
 
 use crate::running::Running;
-use crate::silent::line_at;
 use crate::stage::{Question, Stage};
 use km_base::Memory;
 use kumir_values::{EndKind, Value};
-use performer_kit::{Reply, RobotCommand};
-use stack_code::CodeUnit;
+use performer_kit::Reply;
+use stack_code::{CodeUnit, line_at};
 use std::alloc::AllocError;
-
-/// Whether a command is a test.
-fn asks_a_test(command: RobotCommand) -> bool
-    ensures { result ≡ is_test command }
-{
-    match command {
-        RobotCommand::Up
-        | RobotCommand::Down
-        | RobotCommand::Left
-        | RobotCommand::Right
-        | RobotCommand::Paint => false,
-        RobotCommand::AboveFree
-        | RobotCommand::BelowFree
-        | RobotCommand::LeftFree
-        | RobotCommand::RightFree
-        | RobotCommand::AboveWall
-        | RobotCommand::BelowWall
-        | RobotCommand::LeftWall
-        | RobotCommand::RightWall
-        | RobotCommand::CellPainted
-        | RobotCommand::CellClean => true,
-    }
-}
 
 /// What a test gives.
 fn value_of(reply: Reply) -> Value
@@ -60,7 +35,7 @@ fn go_behind(
 ) -> Result<(), AllocError>
     requires entered { IsEntered units.now running.old }
     requires there { IsAtLine units.now running.old }
-    ensures { OnOk result (running.new ≡ with_answer running.old value) }
+    ensures { OnOk result (running.new ≡ with_reply_value running.old value) }
 {
     let unit = &units[running.unit as usize];
     let Some(_) = line_at(unit.body.as_slice(), running.pc) else {
@@ -82,12 +57,12 @@ pub fn take_reply(
 ) -> Result<Option<EndKind>, Memory>
     requires valid { AllValid units.now }
     requires stage { IsStage units.now stage.old }
-    requires asks { Asks units.now question (moment_of units.now stage.old) }
-    ensures answers { IfOk result (λ end. Answers units.now (moment_of units.now stage.old) question reply end (moment_of units.now stage.new)) }
+    requires asks { AsksNext units.now question (full_state_of units.now stage.old) }
+    ensures answers { IfOk result (λ end. Answers units.now (full_state_of units.now stage.old) question reply end (full_state_of units.now stage.new)) }
     ensures stage { IfOk result (λ end. IfNone end (IsStage units.now stage.new)) }
     ensures inputs { stage.new.inputs ≡ stage.old.inputs }
 {
-    if asks_a_test(question.command) {
+    if question.command.is_test() {
         go_behind(units, &mut stage.running, Some(value_of(reply)))?;
         return Ok(None);
     }

@@ -4,8 +4,8 @@ ghost use Rattle.std.specs.List.{list_any};
 ghost use Rattle.kumir_meaning.specs.Store as store;
 ghost use Rattle.kumir_meaning.specs.Store.{value_in, with_element};
 ghost use Rattle.stack_code.specs.CodeState.{Plain, with_slot, cell_in};
-ghost use Rattle.stack_code.specs.Instructions.{index_in, copied, copied_to, copied_out};
-ghost use Rattle.machine_steps.specs.Moments.{cell_of, slots_of};
+ghost use Rattle.stack_code.specs.Instructions.{index_in, copied, copied_to, copied_to_places};
+ghost use Rattle.machine_steps.specs.States.{cell_view, slots_of};
 ghost use Rattle.machine_steps.specs.Returns.{PlaceIsThere, GivesBack};
 
 use crate::held::{Cell, Held};
@@ -31,7 +31,7 @@ fn value_of(slots: &Slots, slot: u32) -> Option<Value>
 
 /// A value, or none, as what a variable holds.
 fn cell_with(value: Option<Value>) -> Cell
-    ensures { cell_of result ≡ store.cell_of value }
+    ensures { cell_view result ≡ store.cell_of value }
 {
     match value {
         Some(value) => Cell::Has(value),
@@ -68,7 +68,7 @@ fn take_or_copy(
     is_needed: bool,
 ) -> Result<Cell, Memory>
     requires { slot < length callee.old }
-    ensures cell { IfOk result (λ cell. cell_of cell ≡ cell_in (slots_of callee.old slot)) }
+    ensures cell { IfOk result (λ cell. cell_view cell ≡ cell_in (slots_of callee.old slot)) }
     ensures kept { is_needed ≡ true → slots_of callee.new ≡ slots_of callee.old }
     ensures others { (y : ℕ) → y ≢ slot → slots_of callee.new y ≡ slots_of callee.old y }
     ensures count { length callee.new ≡ length callee.old }
@@ -174,7 +174,7 @@ pub fn copy_out(
 ) -> Result<(), Memory>
     requires places { All (PlaceIsThere (length slots.old)) places.now }
     requires params { All (λ p. p.slot < length callee.old) params.now }
-    ensures copied { OnOk result (slots_of slots.new ≡ copied_out params.now places.now (slots_of callee.old) (slots_of slots.old)) }
+    ensures copied { OnOk result (slots_of slots.new ≡ copied_to_places params.now places.now (slots_of callee.old) (slots_of slots.old)) }
     ensures count { length slots.new ≡ length slots.old }
 {
     for at in 0..params.len().min(places.len()) {

@@ -1,7 +1,7 @@
 //! An algorithm that runs, or that waits for the return of a call.
 ghost use Rattle.std.specs.Prelude.{◌≡◌, [], IfOk, length};
 ghost use Rattle.stack_code.specs.CodeRuns.{start};
-ghost use Rattle.machine_steps.specs.Moments.{state_of};
+ghost use Rattle.machine_steps.specs.States.{state_of};
 
 use crate::operands::Operands;
 use crate::slots::Slots;

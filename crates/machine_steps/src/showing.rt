@@ -2,11 +2,11 @@
 ghost use Rattle.std.specs.Prelude.{◌≡◌, ◌<◌, ◌+◌, ◌^◌, List, length, map, true, IfOk};
 ghost use Rattle.kumir_meaning.specs.Operators.{number_of};
 ghost use Rattle.kumir_meaning.specs.Runs.{usual, pen_command};
-ghost use Rattle.stack_code.specs.Instructions.{acts, numbers_asked};
+ghost use Rattle.stack_code.specs.Instructions.{event_of};
 ghost use Rattle.stack_code.specs.declared.unit.CodeUnit.{CodeUnit};
 ghost use Rattle.stack_code.specs.declared.instruction.Instruction.TheVariants as code;
 ghost use Rattle.stack_code.specs.declared.instruction.CommandShape.TheVariants as command;
-ghost use Rattle.machine_steps.specs.Moments.{state_of};
+ghost use Rattle.machine_steps.specs.States.{state_of};
 ghost use Rattle.machine_steps.specs.Acting.{Carries};
 ghost use Rattle.machine_steps.specs.Local.{is_local};
 
@@ -24,7 +24,7 @@ use std::alloc::Global;
 /// Prints the popped value.
 pub fn print_top(alloc: Global, running: &mut Running) -> Result<Acted, Memory>
     requires { running.old.pc + 1 < 2 ^ 64 }
-    ensures acts { IfOk result (λ acted. (units : List CodeUnit) → Carries (λ frames. acts usual units code.Out 0 (state_of running.old frames)) acted running.new) }
+    ensures acts { IfOk result (λ acted. (units : List CodeUnit) → Carries (λ frames. event_of usual units code.Out 0 (state_of running.old frames)) acted running.new) }
     ensures count { length running.new.slots ≡ length running.old.slots }
 {
     let text = value_text(alloc, running.operands.pop())?;
@@ -35,7 +35,7 @@ pub fn print_top(alloc: Global, running: &mut Running) -> Result<Acted, Memory>
 /// Prints a text.
 pub fn print_text(alloc: Global, running: &mut Running, text: &Chars) -> Result<Acted, Memory>
     requires { running.old.pc + 1 < 2 ^ 64 }
-    ensures acts { IfOk result (λ acted. (units : List CodeUnit) → Carries (λ frames. acts usual units (code.OutText text.now) 0 (state_of running.old frames)) acted running.new) }
+    ensures acts { IfOk result (λ acted. (units : List CodeUnit) → Carries (λ frames. event_of usual units (code.OutText text.now) 0 (state_of running.old frames)) acted running.new) }
     ensures count { length running.new.slots ≡ length running.old.slots }
 {
     let copy = text.copy(alloc)?;
@@ -46,7 +46,7 @@ pub fn print_text(alloc: Global, running: &mut Running, text: &Chars) -> Result<
 /// Prints a line feed.
 pub fn print_line_feed(alloc: Global, running: &mut Running) -> Result<Acted, Memory>
     requires { running.old.pc + 1 < 2 ^ 64 }
-    ensures acts { IfOk result (λ acted. (units : List CodeUnit) → Carries (λ frames. acts usual units code.OutLine 0 (state_of running.old frames)) acted running.new) }
+    ensures acts { IfOk result (λ acted. (units : List CodeUnit) → Carries (λ frames. event_of usual units code.OutLine 0 (state_of running.old frames)) acted running.new) }
     ensures count { length running.new.slots ≡ length running.old.slots }
 {
     let text = line_feed(alloc)?;
@@ -54,18 +54,8 @@ pub fn print_line_feed(alloc: Global, running: &mut Running) -> Result<Acted, Me
     Ok(Acted::Printed(text))
 }
 
-/// How many numbers a command of the Draughtsman has.
-fn count_asked(shape: PenShape) -> usize
-    ensures { result ≡ numbers_asked shape }
-{
-    match shape {
-        PenShape::Raise | PenShape::Lower => 0,
-        PenShape::To | PenShape::By => 2,
-    }
-}
-
 /// A command of the Draughtsman with its numbers.
-#[tactic(auto, using(crate::proofs::Pens::first_same, crate::proofs::Pens::second_same))]
+#[tactic(auto, using(crate::proofs::PenNumbers::first_same, crate::proofs::PenNumbers::second_same))]
 fn command_of(shape: PenShape, values: &[Value]) -> PenCommand
     ensures { result ≡ pen_command shape (map number_of values.now) }
 {
@@ -88,10 +78,10 @@ fn command_of(shape: PenShape, values: &[Value]) -> PenCommand
 /// Sends a command of the Draughtsman with the numbers on top.
 pub fn tell(running: &mut Running, shape: PenShape) -> Result<Acted, Memory>
     requires { running.old.pc + 1 < 2 ^ 64 }
-    ensures acts { IfOk result (λ acted. (units : List CodeUnit) → Carries (λ frames. acts usual units (code.Ask (command.Pen shape)) 0 (state_of running.old frames)) acted running.new) }
+    ensures acts { IfOk result (λ acted. (units : List CodeUnit) → Carries (λ frames. event_of usual units (code.Ask (command.Pen shape)) 0 (state_of running.old frames)) acted running.new) }
     ensures count { length running.new.slots ≡ length running.old.slots }
 {
-    let count = count_asked(shape);
+    let count = shape.arity();
     let command = command_of(shape, running.operands.last(count));
     running.operands.discard(count);
     running.pc += 1;
@@ -102,7 +92,7 @@ pub fn tell(running: &mut Running, shape: PenShape) -> Result<Acted, Memory>
 pub fn ask(running: &mut Running, shape: CommandShape, line: u32) -> Result<Acted, Memory>
     requires room { running.old.pc + 1 < 2 ^ 64 }
     requires local { is_local (code.Ask shape) ≡ true }
-    ensures acts { IfOk result (λ acted. (units : List CodeUnit) → Carries (λ frames. acts usual units (code.Ask shape) line (state_of running.old frames)) acted running.new) }
+    ensures acts { IfOk result (λ acted. (units : List CodeUnit) → Carries (λ frames. event_of usual units (code.Ask shape) line (state_of running.old frames)) acted running.new) }
     ensures count { length running.new.slots ≡ length running.old.slots }
 {
     match shape {

@@ -3,7 +3,7 @@ ghost use Rattle.std.specs.Prelude.{◌≡◌, ◌<◌, length, IfOk, MatchOptio
 ghost use Rattle.stack_code.specs.CodeState.{Plain, with_slot, no_slots, cell_in};
 ghost use Rattle.kumir_meaning.specs.Store as store;
 ghost use Rattle.kumir_meaning.specs.Store.{read, with_element};
-ghost use Rattle.machine_steps.specs.Moments.{cell_of, slot_of, turns_of, slots_of, AllEmpty};
+ghost use Rattle.machine_steps.specs.States.{cell_view, slot_of, turns_view, slots_of, AllEmpty};
 
 use crate::grid::put_element;
 use crate::held::{Cell, Held, Turns};
@@ -43,7 +43,7 @@ fn nothing_held(alloc: Global, count: usize) -> Result<Vec<Held>, AllocError>
 
 impl Slots {
     /// So many slots, which hold nothing.
-    #[tactic(auto, using(crate::proofs::Updates::nothing_is))]
+    #[tactic(auto, using(crate::proofs::WrittenSlots::nothing_is))]
     pub fn new(alloc: Global, count: usize) -> Result<Slots, Memory>
         ensures slots { IfOk result (λ slots. slots_of slots ≡ no_slots) }
         ensures count { IfOk result (λ slots. length slots ≡ count) }
@@ -85,7 +85,7 @@ impl Slots {
 
     /// What the variable of a slot holds, if the slot is there and is no loop's.
     pub fn cell(&self, slot: u32) -> Option<&Cell>
-        ensures { MatchOption result (cell_in (slots_of self.now slot) ≡ store.Empty) (λ cell. cell_in (slots_of self.now slot) ≡ cell_of cell.now) }
+        ensures { MatchOption result (cell_in (slots_of self.now slot) ≡ store.Empty) (λ cell. cell_in (slots_of self.now slot) ≡ cell_view cell.now) }
     {
         match self.held.get(slot as usize) {
             Some(Held::Plain(cell)) => Some(cell),
@@ -95,7 +95,7 @@ impl Slots {
 
     /// How the loop of a slot stands, if it is a loop's.
     pub fn turns(&self, slot: u32) -> Option<Turns>
-        ensures { MatchOption result (slots_of self.now slot ≡ Plain (cell_in (slots_of self.now slot))) (λ turns. slots_of self.now slot ≡ turns_of turns) }
+        ensures { MatchOption result (slots_of self.now slot ≡ Plain (cell_in (slots_of self.now slot))) (λ turns. slots_of self.now slot ≡ turns_view turns) }
     {
         match self.held.get(slot as usize) {
             Some(Held::Loop(turns)) => Some(*turns),
@@ -106,7 +106,7 @@ impl Slots {
     /// Takes out what the variable of a slot holds; nothing where the slot is a loop's.
     pub fn take(&mut self, slot: u32) -> Cell
         requires { slot < length self.old }
-        ensures cell { cell_of result ≡ cell_in (slots_of self.old slot) }
+        ensures cell { cell_view result ≡ cell_in (slots_of self.old slot) }
         ensures slots { slots_of self.new ≡ with_slot (slots_of self.old) slot (Plain store.Empty) }
         ensures count { length self.new ≡ length self.old }
     {
@@ -118,7 +118,7 @@ impl Slots {
 
     /// A copy of what the variable of a slot holds; nothing where the slot is a loop's.
     pub fn copy_cell(&self, alloc: Global, slot: u32) -> Result<Cell, Memory>
-        ensures { IfOk result (λ cell. cell_of cell ≡ cell_in (slots_of self.now slot)) }
+        ensures { IfOk result (λ cell. cell_view cell ≡ cell_in (slots_of self.now slot)) }
     {
         match self.cell(slot) {
             Some(Cell::Has(value)) => Ok(Cell::Has(*value)),

@@ -4,19 +4,18 @@ ghost use Rattle.stack_code.specs.CodeRuns.{start};
 ghost use Rattle.stack_code.specs.Validity.{is_call};
 ghost use Rattle.machine_steps.specs.Progress.{at};
 ghost use Rattle.machine_steps.specs.Frames.{line_of, AllValid, IsEntered};
-ghost use Rattle.machine_steps.specs.Stages.{moment_of, IsStage, NeedsStep};
-ghost use Rattle.machine_steps.specs.Reaching.{stepped, Reaches, ComesSome, NeedsEach, IsBehindStep, Enters, Passes, as_reached, IsStageAt, StepsIn};
+ghost use Rattle.machine_steps.specs.Stages.{full_state_of, IsStage, NeedsStep};
+ghost use Rattle.machine_steps.specs.Reaching.{stepped, Reaches, StepsToSome, NeedsEach, IsBehindStep, Enters, Passes, as_reached, IsStageAt, StepsIn};
 
 use crate::enter::enter;
-use crate::going::run_on;
 use crate::running::Running;
-use crate::silent::line_at;
 use crate::stage::{Question, Stage, Stop};
+use crate::stops::run_on;
 use km_base::Memory;
 use kumir_tree::Chars;
 use kumir_values::{EndKind, Values};
 use performer_kit::PenCommand;
-use stack_code::{CodeLine, CodeUnit, Instruction};
+use stack_code::{CodeLine, CodeUnit, Instruction, is_call_line, line_at};
 use std::alloc::Global;
 
 /// What a run came to.
@@ -46,7 +45,7 @@ pub fn begin_run(
     requires valid { AllValid units.now }
     requires there { entry < length units.now }
     ensures stage { IfOk result (λ stage. IsStage units.now stage) }
-    ensures begin { IfOk result (λ stage. moment_of units.now stage ≡ at (start entry) inputs) }
+    ensures begin { IfOk result (λ stage. full_state_of units.now stage ≡ at (start entry) inputs) }
     ensures inputs { IfOk result (λ stage. stage.inputs ≡ inputs) }
 {
     let running = Running::begin(alloc, entry, &units[entry as usize])?;
@@ -56,13 +55,6 @@ pub fn begin_run(
         inputs,
         taken: 0,
     })
-}
-
-/// Whether a line is a call.
-fn is_call_line(line: &CodeLine) -> bool
-    ensures { result ≡ is_call (Some line.now) }
-{
-    matches!(line.what, Instruction::Call(_, _))
 }
 
 /// Enters the unit of the call that stands next. The end of the run where that can't be.
@@ -77,7 +69,7 @@ fn enter_at(
     requires there { line_of units.now stage.old.running stage.old.running.pc ≡ Some line.now }
     requires call { is_call (Some line.now) ≡ true }
     requires room { stage.old.running.pc + 1 < 2 ^ 64 }
-    ensures enters { IfOk result (λ end. Enters units.now (moment_of units.now stage.old) end (moment_of units.now stage.new)) }
+    ensures enters { IfOk result (λ end. Enters units.now (full_state_of units.now stage.old) end (full_state_of units.now stage.new)) }
     ensures stage { IfOk result (λ end. IfNone end (IsStage units.now stage.new)) }
     ensures inputs { stage.new.inputs ≡ stage.old.inputs }
 {
@@ -106,7 +98,7 @@ fn enter_next(
 ) -> Result<Option<EndKind>, Memory>
     requires valid { AllValid units.now }
     requires stage { IsBehindStep units.now stage.old }
-    ensures enters { IfOk result (λ end. Enters units.now (moment_of units.now stage.old) end (moment_of units.now stage.new)) }
+    ensures enters { IfOk result (λ end. Enters units.now (full_state_of units.now stage.old) end (full_state_of units.now stage.new)) }
     ensures stage { IfOk result (λ end. IfNone end (IsStage units.now stage.new)) }
     ensures inputs { stage.new.inputs ≡ stage.old.inputs }
 {
@@ -142,10 +134,10 @@ fn pass_step(
 ) -> Result<Option<EndKind>, Memory>
     requires valid { AllValid units.now }
     requires stage { IsStage units.now stage.old }
-    requires step { NeedsStep units.now (moment_of units.now stage.old) }
-    ensures passes { IfOk result (λ end. Passes units.now (moment_of units.now stage.old) end (moment_of units.now stage.new)) }
+    requires step { NeedsStep units.now (full_state_of units.now stage.old) }
+    ensures passes { IfOk result (λ end. Passes units.now (full_state_of units.now stage.old) end (full_state_of units.now stage.new)) }
     ensures stage { IfOk result (λ end. IfNone end (IsStage units.now stage.new)) }
-    ensures refused { IfErr result (λ refused. ComesSome units.now (moment_of units.now stage.old) 1) }
+    ensures refused { IfErr result (λ refused. StepsToSome units.now (full_state_of units.now stage.old) 1) }
     ensures inputs { stage.new.inputs ≡ stage.old.inputs }
 {
     take_step(units, &mut stage.running);
@@ -178,11 +170,11 @@ pub fn run_steps(
     requires valid { AllValid units.now }
     requires stage { IsStage units.now stage.old }
     requires within { steps.old ≤ budget }
-    ensures reaches { IfOk result (λ reached. Reaches units.now (moment_of units.now stage.old) (steps.new - steps.old) reached (moment_of units.now stage.new)) }
+    ensures reaches { IfOk result (λ reached. Reaches units.now (full_state_of units.now stage.old) (steps.new - steps.old) reached (full_state_of units.now stage.new)) }
     ensures stage { IfOk result (λ reached. IsStageAt units.now reached stage.new) }
     ensures steps { IfOk result (λ reached. StepsIn steps.old steps.new budget most reached) }
-    ensures needed { NeedsEach units.now (moment_of units.now stage.old) (steps.new - steps.old) }
-    ensures refused { IfErr result (λ refused. ComesSome units.now (moment_of units.now stage.old) (steps.new - steps.old)) }
+    ensures needed { NeedsEach units.now (full_state_of units.now stage.old) (steps.new - steps.old) }
+    ensures refused { IfErr result (λ refused. StepsToSome units.now (full_state_of units.now stage.old) (steps.new - steps.old)) }
     ensures rise { steps.old ≤ steps.new }
     ensures within { steps.new ≤ budget }
     ensures few { steps.new ≤ steps.old + most }

@@ -3,9 +3,9 @@ ghost use Rattle.std.specs.Prelude.{◌≡◌, ◌<◌, ◌+◌, ◌*◌, ◌^�
 ghost use Rattle.kumir_meaning.specs.Runs.{usual};
 ghost use Rattle.kumir_meaning.specs.Store.{element, checked, fitted, with_element, elements_in};
 ghost use Rattle.stack_code.specs.CodeState.{Plain, cell_in, paired, next, next_with};
-ghost use Rattle.stack_code.specs.Instructions.{acts, if_fine};
+ghost use Rattle.stack_code.specs.Instructions.{event_of, if_fine};
 ghost use Rattle.stack_code.specs.declared.instruction.Instruction.TheVariants as code;
-ghost use Rattle.machine_steps.specs.Moments.{state_of, slots_of};
+ghost use Rattle.machine_steps.specs.States.{state_of, slots_of};
 ghost use Rattle.machine_steps.specs.Acting.{Carries};
 ghost use Rattle.machine_steps.specs.Grids.{IsFine, goes, IsMade};
 
@@ -70,7 +70,7 @@ pub fn take_element(
     line: u32,
 ) -> Result<Acted, Memory>
     requires { running.old.pc + 1 < 2 ^ 64 }
-    ensures acts { IfOk result (λ acted. Carries (λ frames. acts usual [] (code.Elem slot count) line (state_of running.old frames)) acted running.new) }
+    ensures acts { IfOk result (λ acted. Carries (λ frames. event_of usual [] (code.Elem slot count) line (state_of running.old frames)) acted running.new) }
     ensures count { length running.new.slots ≡ length running.old.slots }
 {
     let index = running.operands.last_numbers(alloc, count as usize)?;
@@ -103,7 +103,7 @@ pub fn probe(
     line: u32,
 ) -> Result<Acted, Memory>
     requires { running.old.pc + 1 < 2 ^ 64 }
-    ensures acts { IfOk result (λ acted. Carries (λ frames. acts usual [] (code.Probe slot count) line (state_of running.old frames)) acted running.new) }
+    ensures acts { IfOk result (λ acted. Carries (λ frames. event_of usual [] (code.Probe slot count) line (state_of running.old frames)) acted running.new) }
     ensures count { length running.new.slots ≡ length running.old.slots }
 {
     let index = running.operands.last_numbers(alloc, count as usize)?;
@@ -120,7 +120,7 @@ pub fn fit(
     line: u32,
 ) -> Result<Acted, Memory>
     requires { running.old.pc + 1 < 2 ^ 64 }
-    ensures acts { IfOk result (λ acted. Carries (λ frames. acts usual [] (code.Fit slot count) line (state_of running.old frames)) acted running.new) }
+    ensures acts { IfOk result (λ acted. Carries (λ frames. event_of usual [] (code.Fit slot count) line (state_of running.old frames)) acted running.new) }
     ensures count { length running.new.slots ≡ length running.old.slots }
 {
     let count = 2 * count as usize;
@@ -164,7 +164,7 @@ pub fn put_element(
 ) -> Result<Acted, Memory>
     requires room { running.old.pc + 1 < 2 ^ 64 }
     requires there { slot < length running.old.slots }
-    ensures acts { IfOk result (λ acted. Carries (λ frames. acts usual [] (code.PutElem slot count) line (state_of running.old frames)) acted running.new) }
+    ensures acts { IfOk result (λ acted. Carries (λ frames. event_of usual [] (code.PutElem slot count) line (state_of running.old frames)) acted running.new) }
     ensures count { length running.new.slots ≡ length running.old.slots }
 {
     let value = running.operands.pop();
@@ -205,7 +205,7 @@ pub fn make(
 ) -> Result<Acted, Memory>
     requires room { running.old.pc + 1 < 2 ^ 64 }
     requires there { slot < length running.old.slots }
-    ensures acts { IfOk result (λ acted. Carries (λ frames. acts usual [] (code.Make slot kind count) line (state_of running.old frames)) acted running.new) }
+    ensures acts { IfOk result (λ acted. Carries (λ frames. event_of usual [] (code.Make slot kind count) line (state_of running.old frames)) acted running.new) }
     ensures count { length running.new.slots ≡ length running.old.slots }
 {
     let count = 2 * count as usize;

@@ -1,8 +1,8 @@
 //! Operators and built-in algorithms on values.
 ghost use Rattle.std.specs.Prelude.{◌≡◌, ◌∷◌, [], not};
 ghost use Rattle.kumir_meaning.specs.Operators.{number_of, turns_of, is_yes, as_value, same_value, below, combined, negated, first_number, second_number, applied};
-ghost use Rattle.machine_steps.specs.Moments.{built_in_of};
 
+use kumir_names::BuiltIn;
 use kumir_tree::Op;
 use kumir_values::{RunFault, Value, add, div, iabs, imax, imin, mul, neg, power, rem, sub};
 
@@ -87,16 +87,6 @@ pub fn negate(value: Value) -> Result<Value, RunFault>
     to_value(neg(number_in(value)))
 }
 
-/// A built-in algorithm.
-#[derive(Clone, Copy)]
-pub enum BuiltIn {
-    Div,
-    Mod,
-    Abs,
-    Min,
-    Max,
-}
-
 /// The number of the first value; 0 where there is none.
 pub fn first_in(values: &[Value]) -> i32
     ensures { result ≡ first_number values.now }
@@ -119,15 +109,15 @@ pub fn second_in(values: &[Value]) -> i32
 
 /// A built-in algorithm on values.
 pub fn apply_to(what: BuiltIn, values: &[Value]) -> Result<Value, RunFault>
-    ensures { result ≡ applied (built_in_of what) values.now }
+    ensures { result ≡ applied what values.now }
 {
     let first = first_in(values);
     let second = second_in(values);
     match what {
         BuiltIn::Div => to_value(div(first, second)),
         BuiltIn::Mod => to_value(rem(first, second)),
-        BuiltIn::Abs => to_value(iabs(first)),
-        BuiltIn::Min => to_value(imin(first, second)),
-        BuiltIn::Max => to_value(imax(first, second)),
+        BuiltIn::Iabs => to_value(iabs(first)),
+        BuiltIn::Imin => to_value(imin(first, second)),
+        BuiltIn::Imax => to_value(imax(first, second)),
     }
 }

@@ -8,7 +8,7 @@ use Rattle.stack_code.specs.declared.flow.Met.{Met}
 use Rattle.stack_code.specs.declared.flow.Met.TheVariants.{Same, New, Clash}
 use Rattle.stack_code.specs.Operands.{Kinds, kinds_after, target_of}
 use Rattle.stack_code.specs.Validity.{HasKinds, OnLine, OnTarget, Leads, next_of}
-use Rattle.stack_code.specs.Checking.{Found, Meets, MeetsSome, kinds_at, unknown, Within, Finds, Kept, Settled, Visits, VisitsAll, both, clashes}
+use Rattle.stack_code.specs.Checking.{Found, Meets, MeetsSome, kinds_at, unknown, Within, Finds, Kept, IsFollowed, Visits, VisitsAll, both, clashes}
 
 -- where the right kinds of a place are known, they stand where its ways lead
 leads : (units : List CodeUnit) (u : CodeUnit) (kinds : ℕ → Option Kinds) (place : ℕ) (here left : Kinds) (l : CodeLine)
@@ -127,7 +127,7 @@ unmoved old new (Some place) left met e m = (subst (λ x. Meets old place left x
 
 -- nothing is known at the place
 pub nothing_there : (units : List CodeUnit) (u : CodeUnit) (place : ℕ) (old : Found) → kinds_at old place ≡ None → Visits units u place old Same old
-nothing_there units u place old none = record { kept = refl; settled = λ e known at. no_such known (sym none ∙ at) }
+nothing_there units u place old none = record { kept = refl; followed = λ e known at. no_such known (sym none ∙ at) }
 
 -- too many operands, or not those that are needed
 pub wrong_here : (units : List CodeUnit) (u : CodeUnit) (place : ℕ) (old new : Found) (here : Kinds) (l : CodeLine) → kinds_at old place ≡ Some here → slice_get u.body place ≡ Some l
@@ -136,7 +136,7 @@ wrong_here units u place old new here l at line wrong = record {
   kept = λ kinds right w.
       let on = subst (λ o. OnLine units u kinds place here o) line (right.goes_on place here (w place here at)) in
       ⊎_elim (λ deep. absurd (let le = on.0 in omega (arith, deep, le))) (λ none. subst (λ o. Leads kinds place l.what o) none on.1) wrong;
-  settled = λ e. absurd (let z = e in cc);
+  followed = λ e. absurd (let z = e in cc);
 }
 
 pub first_clash : (units : List CodeUnit) (u : CodeUnit) (place : ℕ) (old new : Found) (here left : Kinds) (l : CodeLine) (first : Met) → length old ≡ length u.body
@@ -144,14 +144,14 @@ pub first_clash : (units : List CodeUnit) (u : CodeUnit) (place : ℕ) (old new 
     → MeetsSome old (next_of place l.what) left first new → first ≡ Clash → Visits units u place old Clash new
 first_clash units u place old new here left l first size at line after m clash = record {
   kept = subst (λ x. Kept units u old x new) clash (met_kept units u old new (next_of place l.what) left first size (λ kinds right w. (leads units u kinds place here left l right (w place here at) line after).0) m);
-  settled = λ e. absurd (let z = e in cc);
+  followed = λ e. absurd (let z = e in cc);
 }
 
 pub visited : (units : List CodeUnit) (u : CodeUnit) (place : ℕ) (old mid new : Found) (here left : Kinds) (l : CodeLine) (first second : Met) → length old ≡ length u.body
     → kinds_at old place ≡ Some here → slice_get u.body place ≡ Some l → length here ≤ u.depth → kinds_after units u l.what here ≡ Some left
     → MeetsSome old (next_of place l.what) left first mid → first ≢ Clash → MeetsSome mid (target_of l.what) left second new
     → Visits units u place old (both first second) new
-visited units u place old mid new here left l first second size at line deep after m fine n = record { kept = all_kept; settled = settled }
+visited units u place old mid new here left l first second size at line deep after m fine n = record { kept = all_kept; followed = followed }
   where
     one : Kept units u old first mid
     one = met_kept units u old mid (next_of place l.what) left first size (λ kinds right w. (leads units u kinds place here left l right (w place here at) line after).0) m
@@ -164,8 +164,8 @@ visited units u place old mid new here left l first second size at line deep aft
     all_kept : Kept units u old (both first second) new
     all_kept = both_kept units u old mid new first second fine one two
 
-    settled : both first second ≡ Same → Settled units u old place
-    settled e known there =
+    followed : both first second ≡ Same → IsFollowed units u old place
+    followed e known there =
         let s = both_same first second e in
         let is : here ≡ known = same_kinds here known (sym at ∙ there) in
         let to_next = known_there old mid (next_of place l.what) left first s.0 m in
@@ -185,18 +185,18 @@ is_clash Clash e = refl
 
 -- place after place
 pub turned : (units : List CodeUnit) (u : CodeUnit) (old mid new : Found) (place : ℕ) (so_far met : Met) → so_far ≢ Clash
-    → Kept units u old so_far mid → (so_far ≡ Same → (k : ℕ) → k < place → Settled units u old k) → Visits units u place mid met new
-    → Kept units u old (both so_far met) new × (both so_far met ≡ Same → (k : ℕ) → k < place + 1 → Settled units u old k)
+    → Kept units u old so_far mid → (so_far ≡ Same → (k : ℕ) → k < place → IsFollowed units u old k) → Visits units u place mid met new
+    → Kept units u old (both so_far met) new × (both so_far met ≡ Same → (k : ℕ) → k < place + 1 → IsFollowed units u old k)
 turned units u old mid new place so_far met fine kept before v = (both_kept units u old mid new so_far met fine kept v.kept, after)
   where
-    after : both so_far met ≡ Same → (k : ℕ) → k < place + 1 → Settled units u old k
+    after : both so_far met ≡ Same → (k : ℕ) → k < place + 1 → IsFollowed units u old k
     after e k lt =
         let s = both_same so_far met e in
         let same : mid ≡ old = subst (λ x. Kept units u old x mid) s.0 kept in
         let below : (k < place) ⊎ (k ≡ place) = grind (arith, lt) in
         ⊎_elim
         (λ less. before s.0 k less)
-        (λ at. subst (λ m. Settled units u old m) (sym at) (subst (λ f. Settled units u f place) same (v.settled s.1)))
+        (λ at. subst (λ m. IsFollowed units u old m) (sym at) (subst (λ f. IsFollowed units u f place) same (v.followed s.1)))
         below
 
 pub not_both : (a b : Met) → a ≢ Clash → b ≢ Clash → both a b ≢ Clash
@@ -210,7 +210,7 @@ pub clashed : (units : List CodeUnit) (u : CodeUnit) (old mid new : Found) (plac
     → Kept units u old so_far mid → Visits units u place mid met new → met ≡ Clash → VisitsAll units u old Clash new
 clashed units u old mid new place so_far met fine kept v is = record {
   kept = subst (λ x. Kept units u old x new) (to_clash so_far fine) (both_kept units u old mid new so_far Clash fine kept (subst (λ x. Kept units u mid x new) is v.kept));
-  settled = λ e. absurd (let z = e in cc);
+  followed = λ e. absurd (let z = e in cc);
 }
   where
     to_clash : (m : Met) → m ≢ Clash → both m Clash ≡ Clash
@@ -224,17 +224,17 @@ past_none (x ∷ found) zero le = absurd (omega (arith, le))
 past_none (x ∷ found) (suc k) le = past_none found k (omega (arith, le))
 
 pub all_visited : (units : List CodeUnit) (u : CodeUnit) (old new : Found) (place : ℕ) (so_far : Met) → length old ≡ length u.body → length u.body ≤ place
-    → Kept units u old so_far new → (so_far ≡ Same → (k : ℕ) → k < place → Settled units u old k) → VisitsAll units u old so_far new
-all_visited units u old new place so_far size le kept before = record { kept = kept; settled = after }
+    → Kept units u old so_far new → (so_far ≡ Same → (k : ℕ) → k < place → IsFollowed units u old k) → VisitsAll units u old so_far new
+all_visited units u old new place so_far size le kept before = record { kept = kept; followed = after }
   where
-    after : so_far ≡ Same → (k : ℕ) → Settled units u old k
+    after : so_far ≡ Same → (k : ℕ) → IsFollowed units u old k
     after e k known at =
         let split : (k < place) ⊎ (length old ≤ k) = grind (arith, le, size) in
         ⊎_elim (λ lt. before e k lt known at) (λ far. no_such known (sym (past_none old k far) ∙ at)) split
 
 -- the last pass found nothing new: the kinds that are known are right
 pub all_right : (units : List CodeUnit) (u : CodeUnit) (found new : Found) → kinds_at found 0 ≡ Some [] → VisitsAll units u found Same new → HasKinds units u (kinds_at found)
-all_right units u found new first v = record { begins = first; goes_on = λ place known at. v.settled refl place known at }
+all_right units u found new first v = record { begins = first; goes_on = λ place known at. v.followed refl place known at }
 
 pub none_right : (units : List CodeUnit) (u : CodeUnit) (found new : Found) → ((kinds : ℕ → Option Kinds) → HasKinds units u kinds → Within found kinds) → VisitsAll units u found Clash new → (kinds : ℕ → Option Kinds) → HasKinds units u kinds → ⊥
 none_right units u found new within v kinds right = v.kept kinds right (within kinds right)

@@ -73,16 +73,16 @@ Kept units u old New new = Finds units u old new
 Kept units u old Clash new = (kinds : ℕ → Option Kinds) → HasKinds units u kinds → Within old kinds → ⊥
 
 -- from a place with known kinds the ways go on to places with known kinds
-abbrev pub Settled : List CodeUnit → CodeUnit → Found → ℕ → Type 0
-Settled units u found place = (known : Kinds) → kinds_at found place ≡ Some known → OnLine units u (kinds_at found) place known (slice_get u.body place)
+abbrev pub IsFollowed : List CodeUnit → CodeUnit → Found → ℕ → Type 0
+IsFollowed units u found place = (known : Kinds) → kinds_at found place ≡ Some known → OnLine units u (kinds_at found) place known (slice_get u.body place)
 
 pub record Visits (units : List CodeUnit) (u : CodeUnit) (place : ℕ) (old : Found) (met : Met) (new : Found) : Type 0 where
   pub kept : Kept units u old met new
-  pub settled : met ≡ Same → Settled units u old place
+  pub followed : met ≡ Same → IsFollowed units u old place
 
 pub record VisitsAll (units : List CodeUnit) (u : CodeUnit) (old : Found) (met : Met) (new : Found) : Type 0 where
   pub kept : Kept units u old met new
-  pub settled : met ≡ Same → (place : ℕ) → Settled units u old place
+  pub followed : met ≡ Same → (place : ℕ) → IsFollowed units u old place
 
 abbrev pub clashes : Met → Bool
 clashes Same = false

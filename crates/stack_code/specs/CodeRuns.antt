@@ -1,34 +1,33 @@
 -- The run of code, with the outside.
-use Rattle.std.specs.Prelude.{◌≡◌, ℕ, zero, suc, ◌≤◌, List, [], ◌∷◌, ◌++◌, Option, Some, None, Result, Ok, Err}
+use Rattle.std.specs.Prelude.{◌≡◌, ℕ, zero, suc, ◌≤◌, List, [], ◌∷◌, Option, Some, None, Result, Ok, Err}
 use Rattle.performer_kit.specs.declared.commands.Reply.{Reply}
 use Rattle.kumir_values.specs.declared.value.Value.{Value}
 use Rattle.kumir_values.specs.declared.run_end.RunFault.{RunFault}
 use Rattle.kumir_values.specs.declared.run_end.RunFault.TheVariants.{NoInput}
-use Rattle.kumir_meaning.specs.Runs.{Act, Sent, Trace, only, after_act, input_as}
+use Rattle.kumir_meaning.specs.Runs.{Act, Sent, Trace, only, after_act, input_as, Allowed, IsPrefix, usual}
 use Rattle.kumir_meaning.specs.Runs as state
-use Rattle.kumir_meaning.specs.Runs.{Allowed, usual}
 use Rattle.stack_code.specs.declared.unit.CodeUnit.{CodeUnit}
 use Rattle.stack_code.specs.CodeState.{State, no_slots}
 use Rattle.stack_code.specs.Instructions.{After, On, Over, Event, Go, Tick, Does, Asks, Takes, Halt, step}
 
--- a run from a moment on, by the steps, inputs and replies that are left; none where it is not over yet
-abbrev pub Going : Type 0
-Going = State → ℕ → List Value → List Reply → Option Trace
+-- the run from a state on, by the steps, inputs and replies that are left; none where it is not over yet
+abbrev pub Continuation : Type 0
+Continuation = State → ℕ → List Value → List Reply → Option Trace
 
 abbrev pub after_some : Act → Option Trace → Option Trace
 after_some a None = None
 after_some a (Some t) = Some (after_act a t)
 
-abbrev pub after_reply : After → Going → ℕ → List Value → List Reply → Option Trace
+abbrev pub after_reply : After → Continuation → ℕ → List Value → List Reply → Option Trace
 after_reply (On s) go steps inputs replies = go s steps inputs replies
 after_reply (Over end) go steps inputs replies = Some (only end)
 
-abbrev pub after_input : Result Value RunFault → ℕ → (Value → State) → Going → ℕ → List Value → List Reply → Option Trace
+abbrev pub after_input : Result Value RunFault → ℕ → (Value → State) → Continuation → ℕ → List Value → List Reply → Option Trace
 after_input (Ok v) line s go steps inputs replies = go (s v) steps inputs replies
 after_input (Err fault) line s go steps inputs replies = Some (only (state.Fault line fault))
 
 -- an event meets the outside, and the run goes on
-abbrev pub meet : Event → Going → ℕ → List Value → List Reply → Option Trace
+abbrev pub meet : Event → Continuation → ℕ → List Value → List Reply → Option Trace
 meet (Go s) go steps inputs replies = go s steps inputs replies
 meet (Tick s) go zero inputs replies = Some (only state.Going)
 meet (Tick s) go (suc steps) inputs replies = go s steps inputs replies
@@ -40,7 +39,7 @@ meet (Takes kind line s) go steps (v ∷ inputs) replies = after_input (input_as
 meet (Halt end) go steps inputs replies = Some (only end)
 
 -- at most j instructions
-abbrev pub exec : Allowed → List CodeUnit → ℕ → Going
+abbrev pub exec : Allowed → List CodeUnit → ℕ → Continuation
 exec allowed units zero s steps inputs replies = None
 exec allowed units (suc j) s steps inputs replies = meet (step allowed units s) (exec allowed units j) steps inputs replies
 
@@ -62,12 +61,8 @@ HasOneTrace =
     (allowed : Allowed) (units : List CodeUnit) (entry : ℕ) (inputs : List Value) (replies : List Reply) (steps : ℕ) (t u : Trace)
     → RunsWithin allowed units entry inputs replies steps t → RunsWithin allowed units entry inputs replies steps u → t ≡ u
 
--- the first is the begin of the second
-abbrev pub Begins : {A : Type 0} → List A → List A → Type 0
-Begins {A} xs ys = (more : List A) × (ys ≡ xs ++ more)
-
 -- more steps and more replies only make a run longer
 abbrev pub OnlyGrows : Type 0
 OnlyGrows =
     (allowed : Allowed) (units : List CodeUnit) (entry : ℕ) (inputs : List Value) (r q : List Reply) (m n : ℕ) (t u : Trace)
-    → m ≤ n → Begins r q → RunsWithin allowed units entry inputs r m t → RunsWithin allowed units entry inputs q n u → Begins t.acts u.acts
+    → m ≤ n → IsPrefix r q → RunsWithin allowed units entry inputs r m t → RunsWithin allowed units entry inputs q n u → IsPrefix t.acts u.acts

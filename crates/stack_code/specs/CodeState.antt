@@ -37,7 +37,7 @@ pub record Frame : Type 0 where
   pub used : ℕ
   pub places : List CallPlace
 
--- running code at a moment: the unit and the place in its body, the operands from the top, the slots,
+-- the state of running code: the unit and the place in its body, the operands from the top, the slots,
 -- the table elements in use in all frames, and the calls that wait, the last one first
 pub record State : Type 0 where
   pub unit : ℕ
@@ -66,7 +66,7 @@ paired [] = []
 paired (low ∷ []) = []
 paired (low ∷ (high ∷ more)) = record { low = low; high = high } ∷ paired more
 
--- ---- the next moment
+-- ---- the next state
 abbrev pub goes_to : State → ℕ → List Value → State
 goes_to s pc stack = record s { pc = pc; stack = stack }
 

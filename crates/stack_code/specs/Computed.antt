@@ -10,7 +10,7 @@ use Rattle.performer_kit.specs.declared.commands.Reply.TheVariants as reply
 use Rattle.kumir_values.specs.declared.value.Value.{Value}
 use Rattle.kumir_values.specs.declared.value.Value.TheVariants.{Whole, Truth}
 use Rattle.kumir_values.specs.declared.run_end.RunFault.TheVariants as fault
-use Rattle.kumir_meaning.specs.Runs.{Act, Printed, Sent, RunState}
+use Rattle.kumir_meaning.specs.Runs.{Act, Printed, Sent, RunState, usual}
 use Rattle.kumir_meaning.specs.Runs as state
 use Rattle.stack_code.specs.declared.instruction.CallPlace.TheVariants as place
 use Rattle.stack_code.specs.declared.instruction.CommandShape.TheVariants as command
@@ -19,7 +19,6 @@ use Rattle.stack_code.specs.declared.instruction.Instruction.TheVariants.{Push, 
 use Rattle.stack_code.specs.declared.instruction.CodeLine.{CodeLine}
 use Rattle.stack_code.specs.declared.unit.ParamSlot.{ParamSlot}
 use Rattle.stack_code.specs.declared.unit.CodeUnit.{CodeUnit}
-use Rattle.kumir_meaning.specs.Runs.{usual}
 use Rattle.stack_code.specs.CodeRuns.{exec, start}
 
 abbrev pub on : ℕ → List Instruction → List CodeLine → List CodeLine

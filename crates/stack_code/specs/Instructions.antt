@@ -1,4 +1,4 @@
--- What one instruction does: a moment after it, or what it asks of the outside. It sees no steps, inputs or replies.
+-- What one instruction does: the state after it, or what it asks of the outside. It sees no steps, inputs or replies.
 use Rattle.std.specs.Prelude.{ℕ, zero, suc, ◌+◌, ◌-◌, ◌*◌, Bool, true, false, not, List, [], ◌∷◌, ◌++◌, map, reverse, take, drop, length, slice_get, ℤ, pos, ◌+ℤ◌, nat_le, nat_lt, Option, Some, None, Result, Ok, Err, if◌then◌else◌}
 use Rattle.std.specs.Ordering.{int_eq}
 use Rattle.kumir_tree.specs.declared.kind.Kind.{Kind}
@@ -6,20 +6,17 @@ use Rattle.kumir_tree.specs.declared.kind.Mode.{Mode}
 use Rattle.kumir_tree.specs.declared.kind.Mode.TheVariants.{Arg, Res, ArgRes}
 use Rattle.kumir_tree.specs.declared.kind.Op.{Op}
 use Rattle.kumir_tree.specs.declared.kind.Op.TheVariants as op
-use Rattle.performer_kit.specs.declared.commands.RobotCommand.{RobotCommand}
-use Rattle.performer_kit.specs.declared.commands.RobotCommand.TheVariants as robot
-use Rattle.performer_kit.specs.declared.commands.PenShape.{PenShape}
-use Rattle.performer_kit.specs.declared.commands.PenShape.TheVariants as shape
 use Rattle.performer_kit.specs.declared.commands.Command.{Command}
 use Rattle.performer_kit.specs.declared.commands.Command.TheVariants.{Robot, Pen}
 use Rattle.performer_kit.specs.declared.commands.Reply.{Reply}
+use Rattle.performer_kit.specs.Commands.{is_test, pen_arity}
 use Rattle.kumir_values.specs.declared.value.Value.{Value}
 use Rattle.kumir_values.specs.declared.value.Value.TheVariants.{Whole, Truth}
 use Rattle.kumir_values.specs.declared.bounds.Bound.{Bound}
 use Rattle.kumir_values.specs.declared.run_end.RunFault.{RunFault}
 use Rattle.kumir_values.specs.declared.run_end.RunFault.TheVariants.{Unset, StepZero, Bounds, Elements, Depth}
 use Rattle.kumir_values.specs.Bounds.{all_ordered, elements}
-use Rattle.kumir_meaning.specs.Runs.{Act, Printed, Sent, RunState}
+use Rattle.kumir_meaning.specs.Runs.{Act, Printed, Sent, RunState, reply_value, is_wall, pen_command, Allowed}
 use Rattle.kumir_meaning.specs.Runs as state
 use Rattle.kumir_names.specs.declared.built_in.BuiltIn.{BuiltIn}
 use Rattle.kumir_names.specs.declared.built_in.BuiltIn.TheVariants.{Div as DivCall, Mod as ModCall, Iabs as AbsCall, Imin as MinCall, Imax as MaxCall}
@@ -27,7 +24,6 @@ use Rattle.kumir_meaning.specs.Operators.{number_of, is_yes, turns_of, text_of, 
 use Rattle.kumir_meaning.specs.Store.{Cell, Empty, Has, Holds, cell_of, value_in, read, element, checked, given_back, with_element, elements_in, without_values, fitted}
 use Rattle.kumir_meaning.specs.Loops.{past}
 use Rattle.kumir_meaning.specs.Algorithms.{table_for}
-use Rattle.kumir_meaning.specs.Runs.{reply_value, is_wall, pen_command, Allowed}
 use Rattle.stack_code.specs.declared.instruction.CallPlace.{CallPlace}
 use Rattle.stack_code.specs.declared.instruction.CallPlace.TheVariants as place
 use Rattle.stack_code.specs.declared.instruction.CommandShape.{CommandShape}
@@ -58,9 +54,9 @@ pub data Event : Type 0 where
   Halt : RunState → Event
 
 -- pushes what was got onto these operands, or ends with its fault
-abbrev pub gives : Result Value RunFault → ℕ → State → List Value → Event
-gives (Ok v) line s stack = Go (next s (v ∷ stack))
-gives (Err fault) line s stack = Halt (state.Fault line fault)
+abbrev pub pushes_result : Result Value RunFault → ℕ → State → List Value → Event
+pushes_result (Ok v) line s stack = Go (next s (v ∷ stack))
+pushes_result (Err fault) line s stack = Halt (state.Fault line fault)
 
 -- goes on with these operands where a check passed
 abbrev pub if_fine : {T : Type 0} → Result T RunFault → ℕ → (T → State) → Event
@@ -69,14 +65,14 @@ if_fine (Err fault) line s = Halt (state.Fault line fault)
 
 -- an operator over the two operands on top, a built-in over one or two
 abbrev pub operates : Op → ℕ → State → Event
-operates o line s = gives (combined o (top (rest s.stack)) (top s.stack)) line s (rest (rest s.stack))
+operates o line s = pushes_result (combined o (top (rest s.stack)) (top s.stack)) line s (rest (rest s.stack))
 
 abbrev pub applies : BuiltIn → ℕ → ℕ → State → Event
-applies b n line s = gives (applied b (reverse (take n s.stack))) line s (drop n s.stack)
+applies b n line s = pushes_result (applied b (reverse (take n s.stack))) line s (drop n s.stack)
 
 -- a table made anew: `bounds` first, then its former elements no longer count, then `elements`
-abbrev pub makes : ℕ → ℕ → Kind → List Bound → ℕ → State → List Value → Event
-makes room x kind bounds line s stack =
+abbrev pub makes_table : ℕ → ℕ → Kind → List Bound → ℕ → State → List Value → Event
+makes_table room x kind bounds line s stack =
     if all_ordered bounds
     then makes_within room (s.used - elements_in (cell_in (s.slots x)) + elements bounds)
     else Halt (state.Fault line Bounds)
@@ -109,35 +105,12 @@ begins_turns x first last step line s =
     else Go (next_with s (drop 3 s.stack) x (Numbers first last step))
 
 -- ---- commands
-abbrev pub is_test : RobotCommand → Bool
-is_test robot.Up = false
-is_test robot.Down = false
-is_test robot.Left = false
-is_test robot.Right = false
-is_test robot.Paint = false
-is_test robot.AboveFree = true
-is_test robot.BelowFree = true
-is_test robot.LeftFree = true
-is_test robot.RightFree = true
-is_test robot.AboveWall = true
-is_test robot.BelowWall = true
-is_test robot.LeftWall = true
-is_test robot.RightWall = true
-is_test robot.CellPainted = true
-is_test robot.CellClean = true
-
-abbrev pub numbers_asked : PenShape → ℕ
-numbers_asked shape.Raise = 0
-numbers_asked shape.Lower = 0
-numbers_asked shape.To = 2
-numbers_asked shape.By = 2
-
 -- a test pushes its reply; another command of the Robot ends the run at a wall
-abbrev pub asks : CommandShape → ℕ → State → Event
-asks (command.Robot c) line s =
+abbrev pub sends : CommandShape → ℕ → State → Event
+sends (command.Robot c) line s =
     Asks (Robot c) (λ r. if is_test c then On (next s (reply_value r ∷ s.stack)) else if is_wall r then Over (state.Wall line) else On (next s s.stack))
-asks (command.Pen c) line s =
-    Does (Sent (Pen (pen_command c (numbers (numbers_asked c) s.stack)))) (next s (drop (numbers_asked c) s.stack))
+sends (command.Pen c) line s =
+    Does (Sent (Pen (pen_command c (numbers (pen_arity c) s.stack)))) (next s (drop (pen_arity c) s.stack))
 
 -- ---- calls
 
@@ -162,10 +135,10 @@ abbrev pub Begun : Type 0
 Begun = Slots × ℕ
 
 -- a table for a parameter: `unset` first, then `elements`
-abbrev pub receives_table : ℕ → ParamSlot → Cell → Begun → Result Begun RunFault
-receives_table room p Empty g = Err Unset
-receives_table room p (Has v) g = Err Unset
-receives_table room p (Holds t) g =
+abbrev pub fills_with_table : ℕ → ParamSlot → Cell → Begun → Result Begun RunFault
+fills_with_table room p Empty g = Err Unset
+fills_with_table room p (Has v) g = Err Unset
+fills_with_table room p (Holds t) g =
     if nat_le (g.1 + elements t.bounds) room
     then Ok (with_slot g.0 p.slot (Plain (table_for p.mode t)), g.1 + elements t.bounds)
     else Err Elements
@@ -177,28 +150,28 @@ table_of (place.Element x at) = None
 table_of (place.Table x) = Some x
 
 -- one parameter: a table of the caller, the next of the values, or no value
-abbrev pub receives : ℕ → ParamSlot → Option ℕ → Bool → List Value → Slots → Begun → Result Begun RunFault
-receives room p (Some x) taken values slots g = receives_table room p (cell_in (slots x)) g
-receives room p None true values slots g = Ok (with_slot g.0 p.slot (Plain (Has (top values))), g.1)
-receives room p None false values slots g = Ok (with_slot g.0 p.slot (Plain Empty), g.1)
+abbrev pub fills_slot : ℕ → ParamSlot → Option ℕ → Bool → List Value → Slots → Begun → Result Begun RunFault
+fills_slot room p (Some x) taken values slots g = fills_with_table room p (cell_in (slots x)) g
+fills_slot room p None true values slots g = Ok (with_slot g.0 p.slot (Plain (Has (top values))), g.1)
+fills_slot room p None false values slots g = Ok (with_slot g.0 p.slot (Plain Empty), g.1)
 
 abbrev pub and_then : Result Begun RunFault → (Begun → Result Begun RunFault) → Result Begun RunFault
 and_then (Ok g) more = more g
 and_then (Err fault) more = Err fault
 
 -- the parameters in order, with the caller's slots
-abbrev pub receives_all : ℕ → List ParamSlot → List CallPlace → List Value → Slots → Begun → Result Begun RunFault
-receives_all room [] places values slots g = Ok g
-receives_all room (p ∷ params) [] values slots g = Ok g
-receives_all room (p ∷ params) (place ∷ places) values slots g =
-    and_then (receives room p (table_of place) (takes_value p.mode place) values slots g)
-    (λ g1. receives_all room params places (if takes_value p.mode place then rest values else values) slots g1)
+abbrev pub fills_slots : ℕ → List ParamSlot → List CallPlace → List Value → Slots → Begun → Result Begun RunFault
+fills_slots room [] places values slots g = Ok g
+fills_slots room (p ∷ params) [] values slots g = Ok g
+fills_slots room (p ∷ params) (place ∷ places) values slots g =
+    and_then (fills_slot room p (table_of place) (takes_value p.mode place) values slots g)
+    (λ g1. fills_slots room params places (if takes_value p.mode place then rest values else values) slots g1)
 
 -- a call: the depth, the tables, and the unit begins
-abbrev pub calls : Allowed → CodeUnit → ℕ → List CallPlace → ℕ → State → Event
-calls allowed callee u places line s =
+abbrev pub enters_unit : Allowed → CodeUnit → ℕ → List CallPlace → ℕ → State → Event
+enters_unit allowed callee u places line s =
     if nat_lt (length s.frames + 1) allowed.depth
-    then if_fine (receives_all allowed.room callee.params places (reverse (take (values_taken callee.params places) s.stack)) s.slots (no_slots, s.used)) line
+    then if_fine (fills_slots allowed.room callee.params places (reverse (take (values_taken callee.params places) s.stack)) s.slots (no_slots, s.used)) line
     (λ g. record {
       unit = u;
       pc = 0;
@@ -229,10 +202,10 @@ copied_to Arg place c slots = slots
 copied_to Res place c slots = copied place c slots
 copied_to ArgRes place c slots = copied place c slots
 
-abbrev pub copied_out : List ParamSlot → List CallPlace → Slots → Slots → Slots
-copied_out [] places g slots = slots
-copied_out (p ∷ params) [] g slots = slots
-copied_out (p ∷ params) (place ∷ places) g slots = copied_out params places g (copied_to p.mode place (cell_in (g p.slot)) slots)
+abbrev pub copied_to_places : List ParamSlot → List CallPlace → Slots → Slots → Slots
+copied_to_places [] places g slots = slots
+copied_to_places (p ∷ params) [] g slots = slots
+copied_to_places (p ∷ params) (place ∷ places) g slots = copied_to_places params places g (copied_to p.mode place (cell_in (g p.slot)) slots)
 
 -- where a call goes on, with the value of a unit with a kind
 abbrev pub back_in : Frame → List Frame → List ParamSlot → Slots → List Value → State
@@ -240,7 +213,7 @@ back_in f frames params g value = record {
   unit = f.unit;
   pc = f.pc;
   stack = value ++ f.stack;
-  slots = copied_out params f.places g f.slots;
+  slots = copied_to_places params f.places g f.slots;
   used = f.used;
   frames = frames;
 }
@@ -253,9 +226,9 @@ abbrev pub with_answer : Result Value RunFault → ℕ → (List Value → Event
 with_answer (Ok v) line goes_on = goes_on (v ∷ [])
 with_answer (Err fault) line goes_on = Halt (state.Fault line fault)
 
-abbrev pub returns : Option ℕ → List ParamSlot → ℕ → State → Event
-returns None params line s = returns_to s.frames params s.slots []
-returns (Some x) params line s = with_answer (given_back (cell_in (s.slots x))) line (λ value. returns_to s.frames params s.slots value)
+abbrev pub leaves_unit : Option ℕ → List ParamSlot → ℕ → State → Event
+leaves_unit None params line s = returns_to s.frames params s.slots []
+leaves_unit (Some x) params line s = with_answer (given_back (cell_in (s.slots x))) line (λ value. returns_to s.frames params s.slots value)
 
 -- ---- the instruction table
 abbrev pub no_unit : CodeUnit
@@ -268,60 +241,60 @@ unit_or (Some u) = u
 abbrev pub unit_at : List CodeUnit → ℕ → CodeUnit
 unit_at units u = unit_or (slice_get units u)
 
-abbrev pub acts : Allowed → List CodeUnit → Instruction → ℕ → State → Event
-acts allowed units (Push v) line s = Go (next s (v ∷ s.stack))
-acts allowed units Drop line s = Go (next s (rest s.stack))
-acts allowed units (Load x) line s = gives (read (cell_in (s.slots x))) line s s.stack
-acts allowed units (Store x) line s = Go (next_with s (rest s.stack) x (Plain (Has (top s.stack))))
-acts allowed units (Clear x) line s = Go (next_with s s.stack x (Plain Empty))
-acts allowed units (Elem x d) line s = gives (element (cell_in (s.slots x)) (numbers d s.stack)) line s (drop d s.stack)
-acts allowed units (PutElem x d) line s =
+abbrev pub event_of : Allowed → List CodeUnit → Instruction → ℕ → State → Event
+event_of allowed units (Push v) line s = Go (next s (v ∷ s.stack))
+event_of allowed units Drop line s = Go (next s (rest s.stack))
+event_of allowed units (Load x) line s = pushes_result (read (cell_in (s.slots x))) line s s.stack
+event_of allowed units (Store x) line s = Go (next_with s (rest s.stack) x (Plain (Has (top s.stack))))
+event_of allowed units (Clear x) line s = Go (next_with s s.stack x (Plain Empty))
+event_of allowed units (Elem x d) line s = pushes_result (element (cell_in (s.slots x)) (numbers d s.stack)) line s (drop d s.stack)
+event_of allowed units (PutElem x d) line s =
     if_fine (checked (cell_in (s.slots x)) (numbers d (rest s.stack))) line
     (λ at. next_with s (drop d (rest s.stack)) x (Plain (with_element (cell_in (s.slots x)) at (Some (top s.stack)))))
-acts allowed units (Probe x d) line s = if_fine (checked (cell_in (s.slots x)) (numbers d s.stack)) line (λ at. next s s.stack)
-acts allowed units (Make x kind d) line s = makes allowed.room x kind (paired (numbers (2 * d) s.stack)) line s (drop (2 * d) s.stack)
-acts allowed units (Fit x d) line s =
+event_of allowed units (Probe x d) line s = if_fine (checked (cell_in (s.slots x)) (numbers d s.stack)) line (λ at. next s s.stack)
+event_of allowed units (Make x kind d) line s = makes_table allowed.room x kind (paired (numbers (2 * d) s.stack)) line s (drop (2 * d) s.stack)
+event_of allowed units (Fit x d) line s =
     if_fine (fitted (cell_in (s.slots x)) (paired (numbers (2 * d) s.stack))) line (λ c. next s (drop (2 * d) s.stack))
-acts allowed units Add line s = operates op.Plus line s
-acts allowed units Sub line s = operates op.Minus line s
-acts allowed units Mul line s = operates op.Times line s
-acts allowed units Pow line s = operates op.Power line s
-acts allowed units Neg line s = gives (negated (top s.stack)) line s (rest s.stack)
-acts allowed units Div line s = applies DivCall 2 line s
-acts allowed units Mod line s = applies ModCall 2 line s
-acts allowed units Abs line s = applies AbsCall 1 line s
-acts allowed units Min line s = applies MinCall 2 line s
-acts allowed units Max line s = applies MaxCall 2 line s
-acts allowed units Eq line s = operates op.Equal line s
-acts allowed units Ne line s = operates op.NotEqual line s
-acts allowed units Lt line s = operates op.Less line s
-acts allowed units Le line s = operates op.LessOrEqual line s
-acts allowed units Gt line s = operates op.Greater line s
-acts allowed units Ge line s = operates op.GreaterOrEqual line s
-acts allowed units EqTruth line s = operates op.Equal line s
-acts allowed units NeTruth line s = operates op.NotEqual line s
-acts allowed units Not line s = Go (next s (Truth (not (is_yes (top s.stack))) ∷ rest s.stack))
-acts allowed units (Jump a) line s = Go (goes_to s a s.stack)
-acts allowed units (JumpNo a) line s = Go (goes_to s (if is_yes (top s.stack) then s.pc + 1 else a) (rest s.stack))
-acts allowed units Step line s = Tick (next s s.stack)
-acts allowed units (Times x) line s = Go (next_with s (rest s.stack) x (Left (turns_of (top s.stack))))
-acts allowed units (Turns x) line s =
+event_of allowed units Add line s = operates op.Plus line s
+event_of allowed units Sub line s = operates op.Minus line s
+event_of allowed units Mul line s = operates op.Times line s
+event_of allowed units Pow line s = operates op.Power line s
+event_of allowed units Neg line s = pushes_result (negated (top s.stack)) line s (rest s.stack)
+event_of allowed units Div line s = applies DivCall 2 line s
+event_of allowed units Mod line s = applies ModCall 2 line s
+event_of allowed units Abs line s = applies AbsCall 1 line s
+event_of allowed units Min line s = applies MinCall 2 line s
+event_of allowed units Max line s = applies MaxCall 2 line s
+event_of allowed units Eq line s = operates op.Equal line s
+event_of allowed units Ne line s = operates op.NotEqual line s
+event_of allowed units Lt line s = operates op.Less line s
+event_of allowed units Le line s = operates op.LessOrEqual line s
+event_of allowed units Gt line s = operates op.Greater line s
+event_of allowed units Ge line s = operates op.GreaterOrEqual line s
+event_of allowed units EqTruth line s = operates op.Equal line s
+event_of allowed units NeTruth line s = operates op.NotEqual line s
+event_of allowed units Not line s = Go (next s (Truth (not (is_yes (top s.stack))) ∷ rest s.stack))
+event_of allowed units (Jump a) line s = Go (goes_to s a s.stack)
+event_of allowed units (JumpNo a) line s = Go (goes_to s (if is_yes (top s.stack) then s.pc + 1 else a) (rest s.stack))
+event_of allowed units Step line s = Tick (next s s.stack)
+event_of allowed units (Times x) line s = Go (next_with s (rest s.stack) x (Left (turns_of (top s.stack))))
+event_of allowed units (Turns x) line s =
     begins_turns x (number_of (top (rest (rest s.stack)))) (number_of (top (rest s.stack))) (number_of (top s.stack)) line s
-acts allowed units (Next x v a) line s = Go (next_turn (s.slots x) x v a s)
-acts allowed units Out line s = Does (Printed (text_of (top s.stack))) (next s (rest s.stack))
-acts allowed units (OutText text) line s = Does (Printed text) (next s s.stack)
-acts allowed units OutLine line s = Does (Printed (10 ∷ [])) (next s s.stack)
-acts allowed units (Input kind) line s = Takes kind line (λ v. next s (v ∷ s.stack))
-acts allowed units Assert line s = if is_yes (top s.stack) then Go (next s (rest s.stack)) else Halt (state.Assert line)
-acts allowed units Quit line s = Halt state.Quit
-acts allowed units (Ask c) line s = asks c line s
-acts allowed units (Call u places) line s = calls allowed (unit_at units u) u places line s
-acts allowed units Return line s = returns (unit_at units s.unit).gives (unit_at units s.unit).params line s
+event_of allowed units (Next x v a) line s = Go (next_turn (s.slots x) x v a s)
+event_of allowed units Out line s = Does (Printed (text_of (top s.stack))) (next s (rest s.stack))
+event_of allowed units (OutText text) line s = Does (Printed text) (next s s.stack)
+event_of allowed units OutLine line s = Does (Printed (10 ∷ [])) (next s s.stack)
+event_of allowed units (Input kind) line s = Takes kind line (λ v. next s (v ∷ s.stack))
+event_of allowed units Assert line s = if is_yes (top s.stack) then Go (next s (rest s.stack)) else Halt (state.Assert line)
+event_of allowed units Quit line s = Halt state.Quit
+event_of allowed units (Ask c) line s = sends c line s
+event_of allowed units (Call u places) line s = enters_unit allowed (unit_at units u) u places line s
+event_of allowed units Return line s = leaves_unit (unit_at units s.unit).gives (unit_at units s.unit).params line s
 
 -- past the end of a body there is nothing; valid code does not come there
-abbrev pub acts_at : Allowed → List CodeUnit → Option CodeLine → State → Event
-acts_at allowed units None s = Halt state.Done
-acts_at allowed units (Some l) s = acts allowed units l.what l.line s
+abbrev pub event_at : Allowed → List CodeUnit → Option CodeLine → State → Event
+event_at allowed units None s = Halt state.Done
+event_at allowed units (Some l) s = event_of allowed units l.what l.line s
 
 abbrev pub step : Allowed → List CodeUnit → State → Event
-step allowed units s = acts_at allowed units (slice_get (unit_at units s.unit).body s.pc) s
+step allowed units s = event_at allowed units (slice_get (unit_at units s.unit).body s.pc) s

@@ -2,6 +2,7 @@
 use Rattle.std.specs.Prelude.{ℕ, zero, suc, ◌*◌, Bool, true, false, List, [], ◌∷◌, slice_get, Option, Some, None, if◌then◌else◌}
 use Rattle.kumir_tree.specs.declared.kind.Kind.{Kind}
 use Rattle.kumir_tree.specs.declared.kind.Kind.TheVariants as kind
+use Rattle.kumir_tree.specs.Kinds.{same_kind}
 use Rattle.kumir_values.specs.Values.{kind_of}
 use Rattle.stack_code.specs.declared.instruction.CallPlace.{CallPlace}
 use Rattle.stack_code.specs.declared.instruction.CommandShape.{CommandShape}
@@ -12,13 +13,8 @@ use Rattle.stack_code.specs.declared.unit.Shape.{Shape}
 use Rattle.stack_code.specs.declared.unit.Shape.TheVariants.{Scalar, Table, Hidden}
 use Rattle.stack_code.specs.declared.unit.ParamSlot.{ParamSlot}
 use Rattle.stack_code.specs.declared.unit.CodeUnit.{CodeUnit}
-use Rattle.stack_code.specs.Instructions.{is_test, numbers_asked, takes_value, unit_at}
-
-abbrev pub same_kind : Kind → Kind → Bool
-same_kind kind.Whole kind.Whole = true
-same_kind kind.Whole kind.Truth = false
-same_kind kind.Truth kind.Whole = false
-same_kind kind.Truth kind.Truth = true
+use Rattle.performer_kit.specs.Commands.{is_test, pen_arity}
+use Rattle.stack_code.specs.Instructions.{takes_value, unit_at}
 
 -- ---- kinds of operands, from the top; none where an operand is missing or of another kind
 abbrev pub Kinds : Type 0
@@ -87,7 +83,7 @@ push_answer callee (Some x) left = push_some (value_kind (slice_get callee.slots
 
 abbrev pub after_ask : CommandShape → Kinds → Option Kinds
 after_ask (command.Robot c) kinds = if is_test c then Some (kind.Truth ∷ kinds) else Some kinds
-after_ask (command.Pen c) kinds = pop_numbers (numbers_asked c) kinds
+after_ask (command.Pen c) kinds = pop_numbers (pen_arity c) kinds
 
 -- the kinds after an instruction of a unit
 abbrev pub kinds_after : List CodeUnit → CodeUnit → Instruction → Kinds → Option Kinds

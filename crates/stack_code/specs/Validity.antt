@@ -14,7 +14,8 @@ use Rattle.stack_code.specs.declared.unit.Shape.{Shape}
 use Rattle.stack_code.specs.declared.unit.Shape.TheVariants.{Scalar, Table, Hidden}
 use Rattle.stack_code.specs.declared.unit.ParamSlot.{ParamSlot}
 use Rattle.stack_code.specs.declared.unit.CodeUnit.{CodeUnit}
-use Rattle.stack_code.specs.Operands.{same_kind, Kinds, kinds_after, target_of, falls_through}
+use Rattle.kumir_tree.specs.Kinds.{same_kind}
+use Rattle.stack_code.specs.Operands.{Kinds, kinds_after, target_of, falls_through}
 
 -- ---- slots and their shapes
 abbrev pub is_scalar : Option Shape → Bool

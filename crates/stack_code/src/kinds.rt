@@ -1,6 +1,6 @@
 //! Kinds of the operands at a place.
 ghost use Rattle.std.specs.Prelude.{◌≡◌, [], ◌∷◌, Some, None, IfOk, OnOk, OnErr, length, ◌↔◌, IsTrue};
-ghost use Rattle.stack_code.specs.Operands.{pop, pop_any, pop_numbers, same_kind};
+ghost use Rattle.stack_code.specs.Operands.{pop, pop_any, pop_numbers};
 
 use kumir_tree::Kind;
 use std::alloc::{AllocError, Global};
@@ -19,16 +19,6 @@ impl Model for OperandKinds {
     ghost Value = { List Kind };
 
     ghost view = { λ k. reverse k.kinds.items };
-}
-
-/// Whether two kinds are the same.
-pub fn is_same_kind(a: Kind, b: Kind) -> bool
-    ensures { result ≡ same_kind a b }
-{
-    match (a, b) {
-        (Kind::Whole, Kind::Whole) | (Kind::Truth, Kind::Truth) => true,
-        (Kind::Whole, Kind::Truth) | (Kind::Truth, Kind::Whole) => false,
-    }
 }
 
 impl OperandKinds {
@@ -70,7 +60,7 @@ impl OperandKinds {
         ensures { Applies result (pop kind self.old) self.new }
     {
         match self.kinds.pop() {
-            Some(found) => is_same_kind(kind, found),
+            Some(found) => kind.is(found),
             None => false,
         }
     }

@@ -7,8 +7,8 @@ ghost use Rattle.std.specs.List.{list_all};
 
 use crate::instruction::{CallPlace, CodeLine, Instruction};
 use crate::shapes::{
-    is_hidden_shape, is_scalar_shape, is_scalar_shape_of, is_table_shape, is_table_shape_of,
-    line_at, shape_at, unit_of,
+    is_call_line, is_hidden_shape, is_scalar_shape, is_scalar_shape_of, is_table_shape,
+    is_table_shape_of, line_at, shape_at, unit_of,
 };
 use crate::unit::{CodeUnit, ParamSlot, Shape};
 use kumir_tree::{Kind, Mode};
@@ -154,10 +154,7 @@ fn is_step_at(body: &[CodeLine], place: usize) -> bool
     ensures { result ≡ is_step (slice_get body.now place) }
 {
     match line_at(body, place) {
-        Some(line) => match line.what {
-            Instruction::Step => true,
-            _ => false,
-        },
+        Some(line) => matches!(line.what, Instruction::Step),
         None => false,
     }
 }
@@ -169,16 +166,6 @@ fn is_call_at(body: &[CodeLine], place: usize) -> bool
     match line_at(body, place) {
         Some(line) => is_call_line(line),
         None => false,
-    }
-}
-
-/// Whether it is a call.
-fn is_call_line(line: &CodeLine) -> bool
-    ensures { result ≡ is_call (Some line.now) }
-{
-    match line.what {
-        Instruction::Call(_, _) => true,
-        _ => false,
     }
 }
 

@@ -1,7 +1,7 @@
 //! What an instruction does to the kinds of the operands.
 ghost use Rattle.std.specs.Prelude.{◌≡◌, List, Some, IfOk, IsTrue};
 ghost use Rattle.stack_code.specs.Operands.{pop, pop_numbers, pop_some, pop_values, pushing, push_some, push_answer, then_pop, leaving, after_ask, kinds_after};
-ghost use Rattle.stack_code.specs.Instructions.{is_test, numbers_asked, takes_value};
+ghost use Rattle.stack_code.specs.Instructions.{takes_value};
 ghost use Rattle.stack_code.specs.Checking.{Applies, is_plain};
 
 use crate::instruction::{CallPlace, CommandShape, Instruction};
@@ -9,41 +9,7 @@ use crate::kinds::OperandKinds;
 use crate::shapes::{element_kind_of, shape_at, unit_of, value_kind_of};
 use crate::unit::{CodeUnit, ParamSlot};
 use kumir_tree::{Kind, Mode};
-use performer_kit::{PenShape, RobotCommand};
 use std::alloc::{AllocError, Global};
-
-/// Whether a command of the Robot is a test.
-pub fn is_test_of(command: RobotCommand) -> bool
-    ensures { result ≡ is_test command }
-{
-    match command {
-        RobotCommand::Up
-        | RobotCommand::Down
-        | RobotCommand::Left
-        | RobotCommand::Right
-        | RobotCommand::Paint => false,
-        RobotCommand::AboveFree
-        | RobotCommand::BelowFree
-        | RobotCommand::LeftFree
-        | RobotCommand::RightFree
-        | RobotCommand::AboveWall
-        | RobotCommand::BelowWall
-        | RobotCommand::LeftWall
-        | RobotCommand::RightWall
-        | RobotCommand::CellPainted
-        | RobotCommand::CellClean => true,
-    }
-}
-
-/// How many numbers a command of the Draughtsman has.
-pub fn numbers_of(shape: PenShape) -> u64
-    ensures { result ≡ numbers_asked shape }
-{
-    match shape {
-        PenShape::Raise | PenShape::Lower => 0,
-        PenShape::To | PenShape::By => 2,
-    }
-}
 
 /// Whether a parameter takes an operand.
 pub fn takes_operand(mode: Mode, place: &CallPlace) -> bool
@@ -136,12 +102,12 @@ fn apply_ask(kinds: &mut OperandKinds, command: CommandShape) -> Result<bool, Al
 {
     match command {
         CommandShape::Robot(command) => {
-            if is_test_of(command) {
+            if command.is_test() {
                 kinds.push(Kind::Truth)?;
             }
             Ok(true)
         }
-        CommandShape::Pen(shape) => Ok(kinds.pop_numbers(numbers_of(shape))),
+        CommandShape::Pen(shape) => Ok(kinds.pop_numbers(shape.arity() as u64)),
     }
 }
 

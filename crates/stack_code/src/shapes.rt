@@ -1,10 +1,9 @@
 //! Slots, units and lines that an instruction names, and whether they have the shape that it needs.
-ghost use Rattle.std.specs.Prelude.{◌≡◌, slice_get, option_map};
+ghost use Rattle.std.specs.Prelude.{◌≡◌, ◌<◌, Some, slice_get, option_map, length, IfSome};
 ghost use Rattle.stack_code.specs.Operands.{value_kind, element_kind};
-ghost use Rattle.stack_code.specs.Validity.{is_scalar, is_scalar_of, is_hidden, is_table, is_table_of, is_param};
+ghost use Rattle.stack_code.specs.Validity.{is_scalar, is_scalar_of, is_hidden, is_table, is_table_of, is_param, is_call};
 
-use crate::instruction::CodeLine;
-use crate::kinds::is_same_kind;
+use crate::instruction::{CodeLine, Instruction};
 use crate::unit::{CodeUnit, Shape};
 use kumir_tree::Kind;
 
@@ -24,9 +23,17 @@ pub fn unit_of(units: &[CodeUnit], number: u32) -> Option<&CodeUnit>
 
 /// The line at a place of a body, if it is there.
 pub fn line_at(body: &[CodeLine], place: usize) -> Option<&CodeLine>
-    ensures { option_map (λ l. l.now) result ≡ slice_get body.now place }
+    ensures line { option_map (λ l. l.now) result ≡ slice_get body.now place }
+    ensures within { IfSome result (λ l. place < length body.now) }
 {
     body.get(place)
+}
+
+/// Whether it is a call.
+pub fn is_call_line(line: &CodeLine) -> bool
+    ensures { result ≡ is_call (Some line.now) }
+{
+    matches!(line.what, Instruction::Call(_, _))
 }
 
 /// The kind of the value that a slot holds; an index is a number.
@@ -65,7 +72,7 @@ pub fn is_scalar_shape_of(wanted: Kind, shape: Option<Shape>) -> bool
     ensures { result ≡ is_scalar_of wanted shape }
 {
     match shape {
-        Some(Shape::Scalar(kind)) => is_same_kind(wanted, kind),
+        Some(Shape::Scalar(kind)) => wanted.is(kind),
         Some(Shape::Table(_, _)) | Some(Shape::Hidden) | None => false,
     }
 }
@@ -95,7 +102,7 @@ pub fn is_table_shape_of(wanted: Kind, bounds: usize, shape: Option<Shape>) -> b
     ensures { result ≡ is_table_of wanted bounds shape }
 {
     match shape {
-        Some(Shape::Table(kind, count)) => is_same_kind(wanted, kind) && bounds == count as usize,
+        Some(Shape::Table(kind, count)) => wanted.is(kind) && bounds == count as usize,
         Some(Shape::Scalar(_)) | Some(Shape::Hidden) | None => false,
     }
 }

@@ -1,6 +1,6 @@
 use Rattle.std.proofs.Common.{◌<◌, ◌≤◌, subst, arith}
 use Rattle.kumir_tree.specs.declared.kind.Mode.TheVariants.{Arg}
-use Rattle.machine_steps.proofs.Calling.{counted_one, counted_all, at_most_one}
+use Rattle.machine_steps.proofs.PassedParams.{counted_one, counted_all, at_most_one}
 use Rattle.machine_steps.proofs.calls.count_operands.Goals as goal
 
 pub loop-at-preserved : goal.loop-at-preserved

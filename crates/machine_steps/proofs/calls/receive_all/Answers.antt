@@ -1,6 +1,6 @@
 use Rattle.std.proofs.Common.{◌≤◌, subst}
-use Rattle.machine_steps.specs.Moments.{slots_of}
-use Rattle.machine_steps.proofs.Calling.{received_end}
+use Rattle.machine_steps.specs.States.{slots_of}
+use Rattle.machine_steps.proofs.PassedParams.{received_end}
 use Rattle.machine_steps.proofs.calls.receive_all.Goals as goal
 
 pub returns-clause-received : goal.returns-clause-received

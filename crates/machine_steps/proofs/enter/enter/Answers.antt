@@ -1,7 +1,7 @@
 use Rattle.std.proofs.Common.{◌<◌, ◌+◌, ◌∙◌, length, subst, sym, ap}
 use Rattle.std.specs.Prelude.{All}
 use Rattle.stack_code.specs.Instructions.{values_taken}
-use Rattle.machine_steps.proofs.Entering.{callee_within, callee_there, callee_is, params_there, entered_on, entered_not, entered_here, entered_waits, past_begin}
+use Rattle.machine_steps.proofs.ValidCalls.{callee_within, callee_there, callee_is, params_there, entered_on, entered_not, entered_here, entered_waits, past_begin}
 use Rattle.machine_steps.proofs.enter.enter.Goals as goal
 
 pub bounds-units-number : goal.bounds-units-number

@@ -1,7 +1,7 @@
 use Rattle.std.proofs.Common.{length, subst, sym}
 use Rattle.std.specs.Prelude.{All}
 use Rattle.machine_steps.specs.Returns.{PlaceIsThere}
-use Rattle.machine_steps.proofs.Entering.{waiting_places}
+use Rattle.machine_steps.proofs.ValidCalls.{waiting_places}
 use Rattle.machine_steps.proofs.enter.go_back.Goals as goal
 
 pub copy_out-requires-clause-places : goal.copy_out-requires-clause-places

@@ -1,10 +1,10 @@
 use Rattle.std.proofs.Common.{◌<◌, ◌-◌, ◌∙◌, length, subst, sym, ap, Ok}
 use Rattle.std.specs.Prelude.{All}
-use Rattle.stack_code.specs.Instructions.{unit_at, copied_out}
-use Rattle.machine_steps.specs.Moments.{slots_of}
+use Rattle.stack_code.specs.Instructions.{unit_at, copied_to_places}
+use Rattle.machine_steps.specs.States.{slots_of}
 use Rattle.machine_steps.specs.Returns.{GivesBack}
 use Rattle.machine_steps.specs.Frames.{places_in, line_of, frames_of, state_in}
-use Rattle.machine_steps.proofs.Entering.{callee_is, params_there, left_on, left_last, left_here, left_past, last_waits, others_wait}
+use Rattle.machine_steps.proofs.ValidCalls.{callee_is, params_there, left_on, left_last, left_here, left_past, last_waits, others_wait}
 use Rattle.machine_steps.proofs.enter.leave.Goals as goal
 
 pub go_back-requires-clause-params : goal.go_back-requires-clause-params
@@ -23,7 +23,7 @@ returns-in_ok-go_back-in-Some-clause-acts c =
     left_on c.args.units.now c.args.running.now c.go_back.new.running c.in-Some.caller c.args.waiting.now.items c.last_waiting.new.waiting.items (unit_at c.args.units.now c.args.running.now.unit).gives (unit_at c.args.units.now c.args.running.now.unit).params c.args.line c.in-Ok.answer
     (subst (λ u. GivesBack u.gives (slots_of c.args.running.now.slots) (Ok c.in-Ok.answer)) is c.in-Ok.ensures) c.in-Some.ensures
     c.in_ok-go_back-in-Some.ensures.unit c.in_ok-go_back-in-Some.ensures.place c.in_ok-go_back-in-Some.ensures.operands
-    (c.in_ok-go_back-in-Some.ensures.slots ∙ ap (λ ps. copied_out ps (places_in (line_of c.args.units.now c.in-Some.caller (c.in-Some.caller.pc - 1))) (slots_of c.args.running.now.slots) (slots_of c.in-Some.caller.slots)) (c.as_slice.ensures ∙ ap (λ u. u.params) is))
+    (c.in_ok-go_back-in-Some.ensures.slots ∙ ap (λ ps. copied_to_places ps (places_in (line_of c.args.units.now c.in-Some.caller (c.in-Some.caller.pc - 1))) (slots_of c.args.running.now.slots) (slots_of c.in-Some.caller.slots)) (c.as_slice.ensures ∙ ap (λ u. u.params) is))
     c.in_ok-go_back-in-Some.ensures.used
 
 pub returns-in_ok-go_back-in-Some-clause-here : goal.returns-in_ok-go_back-in-Some-clause-here

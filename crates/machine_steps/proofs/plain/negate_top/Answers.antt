@@ -1,4 +1,4 @@
-use Rattle.machine_steps.proofs.Giving.{given_on}
+use Rattle.machine_steps.proofs.PushedResults.{given_on}
 use Rattle.machine_steps.proofs.plain.negate_top.Goals as goal
 
 pub returns-clause-acts : goal.returns-clause-acts

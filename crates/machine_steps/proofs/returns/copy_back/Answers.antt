@@ -1,6 +1,6 @@
 use Rattle.stack_code.specs.CodeState.{cell_in}
-use Rattle.machine_steps.specs.Moments.{slots_of}
-use Rattle.machine_steps.proofs.Returning.{element_copied}
+use Rattle.machine_steps.specs.States.{slots_of}
+use Rattle.machine_steps.proofs.CopiedOut.{element_copied}
 use Rattle.machine_steps.proofs.returns.copy_back.Goals as goal
 
 pub returns-in_ok-copy_to_element-in-Element-clause-copied : goal.returns-in_ok-copy_to_element-in-Element-clause-copied

@@ -1,7 +1,7 @@
 use Rattle.std.proofs.Common.{◌≤◌, ◌<◌, ◌∙◌, subst}
 use Rattle.kumir_tree.specs.declared.kind.Mode.TheVariants.{Arg}
-use Rattle.machine_steps.specs.Moments.{slots_of}
-use Rattle.machine_steps.proofs.Returning.{copied_one, copied_end}
+use Rattle.machine_steps.specs.States.{slots_of}
+use Rattle.machine_steps.proofs.CopiedOut.{copied_one, copied_end}
 use Rattle.machine_steps.proofs.returns.copy_out.Goals as goal
 
 pub loop-at-preserved : goal.loop-at-preserved

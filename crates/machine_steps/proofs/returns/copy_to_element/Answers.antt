@@ -1,7 +1,7 @@
 use Rattle.std.proofs.Common.{◌∙◌, ap}
 use Rattle.kumir_meaning.specs.Store.{with_element}
 use Rattle.stack_code.specs.CodeState.{Plain, with_slot, cell_in}
-use Rattle.machine_steps.specs.Moments.{slots_of}
+use Rattle.machine_steps.specs.States.{slots_of}
 use Rattle.machine_steps.proofs.returns.copy_to_element.Goals as goal
 
 pub returns-clause-slots : goal.returns-clause-slots

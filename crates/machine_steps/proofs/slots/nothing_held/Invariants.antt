@@ -1,5 +1,5 @@
 use Rattle.std.proofs.Common.{◌≤◌, ◌-◌}
-use Rattle.machine_steps.specs.Moments.{AllEmpty}
+use Rattle.machine_steps.specs.States.{AllEmpty}
 use Rattle.machine_steps.proofs.slots.nothing_held.Given as goal
 
 abbrev pub invariant-loop-at : goal.invariant-loop-at

@@ -1,6 +1,6 @@
 use Rattle.std.proofs.Common.{◌∙◌, refl, sym, ap}
 use Rattle.stack_code.specs.declared.instruction.Instruction.TheVariants as code
-use Rattle.machine_steps.proofs.Reachings.{entered_so}
+use Rattle.machine_steps.proofs.StepsReach.{entered_so}
 use Rattle.machine_steps.proofs.steps.enter_at.Goals as goal
 
 pub returns-clause-enters : goal.returns-clause-enters

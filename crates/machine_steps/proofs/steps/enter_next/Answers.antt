@@ -1,12 +1,12 @@
 use Rattle.std.proofs.Common.{◌∙◌, None, Some, refl, sym, ap}
 use Rattle.std.specs.Prelude.{slice_get}
-use Rattle.machine_steps.proofs.Coming.{comes_none}
-use Rattle.machine_steps.proofs.Entering.{callee_is}
-use Rattle.machine_steps.proofs.Reachings.{nothing_enters}
+use Rattle.machine_steps.proofs.EventSteps.{steps_to_none}
+use Rattle.machine_steps.proofs.ValidCalls.{callee_is}
+use Rattle.machine_steps.proofs.StepsReach.{nothing_enters}
 use Rattle.machine_steps.proofs.steps.enter_next.Goals as goal
 
 pub returns-in_default-clause-enters : goal.returns-in_default-clause-enters
-returns-in_default-clause-enters c = comes_none c.args.units.now _
+returns-in_default-clause-enters c = steps_to_none c.args.units.now _
 
 pub returns-in_default-clause-stage : goal.returns-in_default-clause-stage
 returns-in_default-clause-stage c =
@@ -15,7 +15,7 @@ returns-in_default-clause-stage c =
     nothing_enters c.args.units.now c.args.stage.now None c.requires.stage (sym (c.in_default.ensures.line ∙ ap (λ b. slice_get b c.args.stage.now.running.pc) body)) refl
 
 pub returns-then-not-is_call_line-clause-enters : goal.returns-then-not-is_call_line-clause-enters
-returns-then-not-is_call_line-clause-enters c = comes_none c.args.units.now _
+returns-then-not-is_call_line-clause-enters c = steps_to_none c.args.units.now _
 
 pub returns-then-not-is_call_line-clause-stage : goal.returns-then-not-is_call_line-clause-stage
 returns-then-not-is_call_line-clause-stage c =

@@ -1,6 +1,6 @@
 use Rattle.std.proofs.Common.{◌≡◌, ◌≤◌, ◌+◌, ◌-◌, []}
-use Rattle.machine_steps.specs.Progress.{Comes}
-use Rattle.machine_steps.specs.Stages.{moment_of, IsStage}
+use Rattle.machine_steps.specs.Progress.{StepsTo}
+use Rattle.machine_steps.specs.Stages.{full_state_of, IsStage}
 use Rattle.machine_steps.specs.Reaching.{NeedsEach}
 use Rattle.machine_steps.proofs.steps.run_steps.Given as goal
 
@@ -11,8 +11,8 @@ invariant-loop-stop l = record {
   steps : l.steps ≡ l.fn.steps + l.taken;
   few : l.taken ≤ l.most;
   within : l.steps ≤ l.budget;
-  comes : Comes l.units (moment_of l.units l.fn.stage) l.taken [] [] (moment_of l.units l.stage);
-  needed : NeedsEach l.units (moment_of l.units l.fn.stage) l.taken;
+  comes : StepsTo l.units (full_state_of l.units l.fn.stage) l.taken [] [] (full_state_of l.units l.stage);
+  needed : NeedsEach l.units (full_state_of l.units l.fn.stage) l.taken;
 }
 
 abbrev pub decreases-loop-stop : goal.decreases-loop-stop

@@ -1,8 +1,8 @@
 use Rattle.std.proofs.Common.{◌∙◌}
 use Rattle.kumir_meaning.specs.Store.{fitted}
 use Rattle.stack_code.specs.CodeState.{cell_in, paired}
-use Rattle.machine_steps.specs.Moments.{slots_of}
-use Rattle.machine_steps.proofs.Grids.{fine_on, fine_with}
+use Rattle.machine_steps.specs.States.{slots_of}
+use Rattle.machine_steps.proofs.TableChecks.{fine_on, fine_with}
 use Rattle.machine_steps.proofs.tables.fit.Goals as goal
 
 pub returns-clause-acts : goal.returns-clause-acts

@@ -1,8 +1,8 @@
 use Rattle.std.proofs.Common.{◌∙◌, refl}
 use Rattle.kumir_meaning.specs.Store.{checked}
 use Rattle.stack_code.specs.CodeState.{cell_in}
-use Rattle.machine_steps.specs.Moments.{slots_of}
-use Rattle.machine_steps.proofs.Grids.{fine_on, fine_with}
+use Rattle.machine_steps.specs.States.{slots_of}
+use Rattle.machine_steps.proofs.TableChecks.{fine_on, fine_with}
 use Rattle.machine_steps.proofs.tables.probe.Goals as goal
 
 pub returns-clause-acts : goal.returns-clause-acts

@@ -1,6 +1,6 @@
 use Rattle.std.proofs.Common.{◌∙◌, ap, drop}
 use Rattle.stack_code.specs.CodeState.{numbers}
-use Rattle.machine_steps.proofs.Grids.{put_on}
+use Rattle.machine_steps.proofs.TableChecks.{put_on}
 use Rattle.machine_steps.proofs.tables.put_element.Goals as goal
 
 pub returns-clause-acts : goal.returns-clause-acts

@@ -1,8 +1,8 @@
 use Rattle.std.proofs.Common.{◌∙◌, ap}
 use Rattle.kumir_meaning.specs.Store.{element}
 use Rattle.stack_code.specs.CodeState.{cell_in}
-use Rattle.machine_steps.specs.Moments.{slots_of}
-use Rattle.machine_steps.proofs.Giving.{given_on}
+use Rattle.machine_steps.specs.States.{slots_of}
+use Rattle.machine_steps.proofs.PushedResults.{given_on}
 use Rattle.machine_steps.proofs.tables.take_element.Goals as goal
 
 pub returns-clause-acts : goal.returns-clause-acts

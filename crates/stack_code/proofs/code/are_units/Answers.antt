@@ -1,4 +1,4 @@
-use Rattle.std.proofs.Common.{refl, arith, ◌≡◌}
+use Rattle.std.proofs.Common.{refl}
 use Rattle.stack_code.specs.Validity.{IsUnit}
 use Rattle.stack_code.proofs.Each.{each_more, each_all}
 use Rattle.stack_code.proofs.code.are_units.Goals as goal

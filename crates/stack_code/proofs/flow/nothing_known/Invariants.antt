@@ -1,4 +1,4 @@
-use Rattle.std.proofs.Common.{◌≡◌, ◌≤◌, ◌-◌}
+use Rattle.std.proofs.Common.{◌≤◌, ◌-◌}
 use Rattle.stack_code.specs.Checking.{AllUnknown}
 use Rattle.stack_code.proofs.flow.nothing_known.Given as goal
 

@@ -1,6 +1,6 @@
 use Rattle.std.proofs.Common.{◌≡◌, ◌≢◌, ◌+◌, ◌<◌, ℕ, sym, ◌∙◌, subst, arith}
 use Rattle.stack_code.specs.declared.flow.Met.TheVariants.{Same, Clash}
-use Rattle.stack_code.specs.Checking.{Kept, Settled}
+use Rattle.stack_code.specs.Checking.{Kept, IsFollowed}
 use Rattle.stack_code.proofs.Visits.{turned, clashed, not_both, not_clash, is_clash, kept_size}
 use Rattle.stack_code.proofs.flow.visit_all.Goals as goal
 
@@ -21,5 +21,5 @@ loop-place-preserved c =
       kept_size c.args.units.now c.args.unit.now c.loop-place.found.items c.visit.new.found.items c.in_ok-met.met fine c.in_ok-met.ensures.kept ∙ c.loop-place.invariant.1,
       subst (λ m. m ≢ Clash) is (not_both c.loop-place.so_far c.in_ok-met.met c.loop-place.invariant.2 fine),
       subst (λ m. Kept c.args.units.now c.args.unit.now c.args.found.now.items m c.visit.new.found.items) is next.0,
-      subst (λ m. m ≡ Same → (k : ℕ) → k < c.loop-place.place + 1 → Settled c.args.units.now c.args.unit.now c.args.found.now.items k) is next.1,
+      subst (λ m. m ≡ Same → (k : ℕ) → k < c.loop-place.place + 1 → IsFollowed c.args.units.now c.args.unit.now c.args.found.now.items k) is next.1,
     )

@@ -1,4 +1,4 @@
-use Rattle.std.proofs.Common.{◌≡◌, ◌≤◌, length, IsTrue, refl, sym, ◌∙◌, arith}
+use Rattle.std.proofs.Common.{◌≤◌, length, IsTrue, refl, sym, ◌∙◌, arith}
 use Rattle.stack_code.specs.Validity.{line_fits}
 use Rattle.stack_code.proofs.Each.{each_more, each_all}
 use Rattle.stack_code.proofs.lines.do_lines_fit.Goals as goal

@@ -1,4 +1,4 @@
-use Rattle.std.proofs.Common.{◌≡◌, ◌≢◌, length, sym, arith}
+use Rattle.std.proofs.Common.{◌≢◌, length, sym, arith}
 use Rattle.stack_code.proofs.PlacesFit.{unequal}
 use Rattle.stack_code.proofs.lines.do_places_fit.Goals as goal
 

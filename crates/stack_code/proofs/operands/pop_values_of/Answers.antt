@@ -1,4 +1,4 @@
-use Rattle.std.proofs.Common.{◌≡◌, ◌≤◌, ◌-◌, length, get_or, arith, sym, ap, ◌∙◌}
+use Rattle.std.proofs.Common.{◌≤◌, ◌-◌, length, get_or, arith, sym, ap, ◌∙◌}
 use Rattle.std.specs.Prelude.{◌⊎◌, slice_get}
 use Rattle.stack_code.specs.Operands.{value_kind, pop_some}
 use Rattle.kumir_tree.specs.declared.kind.Mode.TheVariants.{Arg}

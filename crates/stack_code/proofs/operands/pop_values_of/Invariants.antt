@@ -1,4 +1,4 @@
-use Rattle.std.proofs.Common.{◌≡◌, ◌≤◌, Some, length, min}
+use Rattle.std.proofs.Common.{◌≡◌, ◌≤◌, Some, length}
 use Rattle.std.specs.Prelude.{drop}
 use Rattle.stack_code.specs.Operands.{pop_values}
 use Rattle.stack_code.proofs.operands.pop_values_of.Given as goal

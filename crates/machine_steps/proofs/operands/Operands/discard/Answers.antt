@@ -1,5 +1,5 @@
 use Rattle.std.proofs.Common.{◌≡◌, ◌-◌, length, reverse, drop, ap, ◌∙◌, arith}
-use Rattle.machine_steps.proofs.Stacks.{without_last}
+use Rattle.machine_steps.proofs.OperandLists.{without_last}
 use Rattle.machine_steps.proofs.operands.Operands.discard.Goals as goal
 
 pub returns : goal.returns

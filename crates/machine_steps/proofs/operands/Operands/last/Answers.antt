@@ -1,6 +1,6 @@
 use Rattle.std.proofs.Common.{◌≡◌, ◌-◌, length, reverse, take, ap, ◌∙◌, arith}
 use Rattle.std.proofs.lemmas.List.{take_rest}
-use Rattle.machine_steps.proofs.Stacks.{last_pushed}
+use Rattle.machine_steps.proofs.OperandLists.{last_pushed}
 use Rattle.machine_steps.proofs.operands.Operands.last.Goals as goal
 
 pub returns : goal.returns

@@ -1,8 +1,8 @@
 use Rattle.std.proofs.Common.{◌≡◌, ◌<◌, length, set, List, sym, subst}
 use Rattle.machine_steps.specs.declared.held.Held.{Held}
 use Rattle.stack_code.specs.CodeState.{with_slot}
-use Rattle.machine_steps.specs.Moments.{slot_of, slots_of}
-use Rattle.machine_steps.proofs.Updates.{put_is}
+use Rattle.machine_steps.specs.States.{slot_of, slots_of}
+use Rattle.machine_steps.proofs.WrittenSlots.{put_is}
 use Rattle.machine_steps.proofs.slots.Slots.put.Goals as goal
 
 pub returns-clause-slots : goal.returns-clause-slots

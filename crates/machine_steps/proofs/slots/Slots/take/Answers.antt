@@ -3,8 +3,8 @@ use Rattle.kumir_meaning.specs.Store.{Empty}
 use Rattle.stack_code.specs.CodeState.{Plain, with_slot}
 use Rattle.machine_steps.specs.declared.held.Cell.TheVariants as cell
 use Rattle.machine_steps.specs.declared.held.Held.TheVariants as held
-use Rattle.machine_steps.specs.Moments.{slots_of}
-use Rattle.machine_steps.proofs.Updates.{put_is}
+use Rattle.machine_steps.specs.States.{slots_of}
+use Rattle.machine_steps.proofs.WrittenSlots.{put_is}
 use Rattle.machine_steps.proofs.slots.Slots.take.Goals as goal
 
 pub returns-clause-slots : goal.returns-clause-slots

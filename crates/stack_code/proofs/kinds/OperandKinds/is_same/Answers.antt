@@ -1,4 +1,4 @@
-use Rattle.std.proofs.Common.{◌≡◌, ap, sym, ◌∙◌, reverse}
+use Rattle.std.proofs.Common.{ap, sym, ◌∙◌, reverse}
 use Rattle.std.proofs.lemmas.Slice.Eq.{slice_eq-Decides}
 use Rattle.stack_code.proofs.KindsOf.{kind-Decides, reversed}
 use Rattle.stack_code.proofs.kinds.OperandKinds.is_same.Goals as goal
