@@ -6,6 +6,7 @@ pub mod Expressions
 pub mod Loops
 pub mod Statements
 pub mod Algorithms
+pub mod Laws
 pub mod Written
 pub mod ValuesRun
 pub mod StepsRun

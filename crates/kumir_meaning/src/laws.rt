@@ -1,5 +1,5 @@
-//! Runs of small programs, computed from the definition of the meaning, in the order of docs/LANGUAGE.md, "Meaning".
-//! No code needs to run them.
+//! What holds of all runs; and runs of small programs, computed from the definition of the meaning, in the order of
+//! docs/LANGUAGE.md, "Meaning". No code needs to run them.
 
 ghost use Rattle.kumir_meaning.specs.ValuesRun.{ValuesRun};
 ghost use Rattle.kumir_meaning.specs.StepsRun.{StatesRun, StepsRun};
@@ -7,6 +7,12 @@ ghost use Rattle.kumir_meaning.specs.OrderRun.{OrderRun};
 ghost use Rattle.kumir_meaning.specs.NamesRun.{NamesRun};
 ghost use Rattle.kumir_meaning.specs.LoopsRun.{LoopsRun};
 ghost use Rattle.kumir_meaning.specs.CallsRun.{CallsRun};
+ghost use Rattle.kumir_meaning.specs.Laws.{AnyCounter};
+
+/// The counter of turns and calls never runs out before the steps: any counter of at least the steps gives the same trace.
+pub fn any_counter()
+    ensures { AnyCounter }
+{}
 
 /// Arithmetic, its faults, and how values print.
 pub fn values_run()

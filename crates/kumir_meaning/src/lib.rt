@@ -9,9 +9,12 @@
 //! - `Loops`: loops, whatever their bodies and tests are.
 //! - `Statements`: statements and blocks.
 //! - `Algorithms`: calls, returns, and the run of a program, `run`.
+//! - `Laws`: what holds of all runs.
 //! - `Written` and those that end in `Run`: small programs, whose runs are computed from the definition.
 #![tactic(auto)]
 
 mod laws;
 
-pub use laws::{calls_run, loops_run, names_run, order_run, states_run, steps_run, values_run};
+pub use laws::{
+    any_counter, calls_run, loops_run, names_run, order_run, states_run, steps_run, values_run,
+};
