@@ -125,7 +125,8 @@ abbrev pub starts : List Placed → Program → Allowed → ℕ → Rest
 starts [] p allowed n = stops state.Done
 starts (a ∷ more) p allowed n = proceeds a (at_header p allowed.room (enters p allowed n 1) a) n (λ v g. stops state.Done) (fresh 0)
 
--- the acts and the state of a program within n steps, on these inputs and the Robot's replies
+-- The acts and the state of a program within n steps, on these inputs and the Robot's replies. The steps count the turns of each loop
+-- and the calls inside one another too: each takes a step, so that this counter never runs out before the steps (`AnyCounter` in Laws).
 unfoldable pub run_within : Allowed → Program → List Value → List Reply → ℕ → Trace
 run_within allowed p inputs replies n = starts p.algorithms p allowed n n inputs replies
 

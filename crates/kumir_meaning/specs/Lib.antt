@@ -6,5 +6,11 @@ pub mod Expressions
 pub mod Loops
 pub mod Statements
 pub mod Algorithms
-pub mod Samples
-pub mod Computed
+pub mod Laws
+pub mod Written
+pub mod ValuesRun
+pub mod StepsRun
+pub mod OrderRun
+pub mod NamesRun
+pub mod LoopsRun
+pub mod CallsRun

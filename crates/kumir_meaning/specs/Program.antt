@@ -1,9 +1,10 @@
 -- Programs, the local names of their parts, and what all other names in them stand for. docs/LANGUAGE.md, "Names".
-use Rattle.std.specs.Prelude.{ℕ, false, List, [], ◌∷◌, ◌++◌, Option}
+use Rattle.std.specs.Prelude.{ℕ, false, List, [], ◌∷◌, ◌++◌, Option, option_map}
 use Rattle.km_base.specs.declared.performers.Performers.{Performers}
+use Rattle.kumir_tree.specs.declared.kind.Kind.{Kind}
 use Rattle.kumir_tree.specs.Program.{Stmt, Act, Stands, Declare, Assign, Invoke, Times, While, Count, Forever, Until, Choose, Select, Assert, Input, Output, Leave, Quit, Block, done, ◌next◌, Arms, no_arms, arm}
 use Rattle.kumir_tree.specs.Unit.{Algorithm, Ending, Grown, Prelude, Faulty, Known}
-use Rattle.kumir_names.specs.Variables.{Names, declares}
+use Rattle.kumir_names.specs.Variables.{Names, variable, declares}
 use Rattle.kumir_names.specs.Callees.{Callee, callee}
 
 -- an algorithm with the line of the text at which its lines begin
@@ -36,6 +37,10 @@ own_name a = a.algorithm.head.name
 
 abbrev pub callee_in : Program → List ℕ → Option (Callee Placed)
 callee_in p x = callee own_name p.performers p.algorithms x
+
+-- the kind of the variable with this name
+abbrev pub local_kind : Names → List ℕ → Option Kind
+local_kind names x = option_map (λ v. v.kind) (variable names x)
 
 -- ---- the names that are declared in a part of a body, in the order of the text, in whichever block
 abbrev mutual

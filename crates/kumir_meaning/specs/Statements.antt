@@ -1,5 +1,5 @@
 -- Statements and blocks. docs/LANGUAGE.md, "Meaning".
-use Rattle.std.specs.Prelude.{ℕ, List, [], ◌∷◌, ℤ, pos, Option, option_map, Some, None}
+use Rattle.std.specs.Prelude.{ℕ, List, [], ◌∷◌, ℤ, pos, Option, Some, None}
 use Rattle.std.specs.Ordering.{int_eq}
 use Rattle.kumir_tree.specs.declared.kind.Kind.{Kind}
 use Rattle.kumir_tree.specs.Tree.{Tree, Trees}
@@ -9,9 +9,9 @@ use Rattle.kumir_tree.specs.Program.{Stmt, Stands, Declare, Assign, Invoke, Time
 use Rattle.performer_kit.specs.declared.commands.Command.TheVariants.{Robot, Pen}
 use Rattle.kumir_values.specs.declared.value.Value.{Value}
 use Rattle.kumir_values.specs.declared.run_end.RunFault.TheVariants.{StepZero}
-use Rattle.kumir_names.specs.Variables.{Names, variable}
+use Rattle.kumir_names.specs.Variables.{Names}
 use Rattle.kumir_names.specs.Callees.{Callee, Called, BuiltInCall, RobotCall, PenCall}
-use Rattle.kumir_meaning.specs.Program.{Placed, callee_in, stmt_names, block_names}
+use Rattle.kumir_meaning.specs.Program.{Placed, callee_in, local_kind, stmt_names, block_names}
 use Rattle.kumir_meaning.specs.Operators.{number_of, is_yes, turns_of, text_of}
 use Rattle.kumir_meaning.specs.Store.{TheAnswer, Local, Empty, Store, with_cell, Spot, AtVariable, AtElement, settled, put, made}
 use Rattle.kumir_meaning.specs.Runs as state
@@ -64,8 +64,8 @@ takes_for None spot h k s = nonsense h
 
 abbrev pub kind_at : Spot → Names → Option Kind
 kind_at (AtVariable TheAnswer) locals = None
-kind_at (AtVariable (Local x)) locals = option_map (λ v. v.kind) (variable locals x)
-kind_at (AtElement x index) locals = option_map (λ v. v.kind) (variable locals x)
+kind_at (AtVariable (Local x)) locals = local_kind locals x
+kind_at (AtElement x index) locals = local_kind locals x
 
 abbrev pub inputs : List Place → Here → Then → Then
 inputs [] h k s = k s

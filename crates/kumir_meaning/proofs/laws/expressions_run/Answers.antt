@@ -1,5 +1,0 @@
-use Rattle.kumir_meaning.proofs.Runs as runs
-use Rattle.kumir_meaning.proofs.laws.expressions_run.Goals as goal
-
-pub returns : goal.returns
-returns c = runs.expressions_run

@@ -1,0 +1,5 @@
+use Rattle.kumir_meaning.proofs.Runs as runs
+use Rattle.kumir_meaning.proofs.laws.order_run.Goals as goal
+
+pub returns : goal.returns
+returns c = runs.order_run
