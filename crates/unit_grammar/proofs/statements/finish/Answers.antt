@@ -1,6 +1,6 @@
 use Rattle.unit_grammar.specs.Views.{stack_of}
 use Rattle.unit_grammar.proofs.Acts.{finish_none}
-use Rattle.unit_grammar.proofs.states.finish.Goals as goal
+use Rattle.unit_grammar.proofs.statements.finish.Goals as goal
 
 -- src/states.rt:163:1
 pub returns-in-None : goal.returns-in-None

@@ -1,4 +1,4 @@
--- How long a class's longest text at a front is, 0 where there is none. The relations of `Classes` say what that means.
+-- How long a class's longest prefix is, 0 where there is none. The relations of `Classes` say what that means.
 use Rattle.std.specs.Prelude.{ℕ, ◌+◌, not, ◌&&◌, ◌==◌, nat_lt, nat_le, if◌then◌else◌, List, [], ◌∷◌, length, take, drop, is_some}
 use Rattle.std.specs.List.{prefix_len}
 use Rattle.kumir_lexer.specs.Spelling.{sign_of}

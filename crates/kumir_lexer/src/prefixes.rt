@@ -1,9 +1,9 @@
-//! How long the longest token of each class at the front of a text is.
+//! How long the longest token of each class that is a prefix of a text is.
 
 ghost use Rattle.std.specs.Prelude.{◌≡◌, ◌≤◌, length, not};
 ghost use Rattle.std.specs.List.{prefix_len};
 ghost use Rattle.kumir_lexer.specs.Classes as classes;
-ghost use Rattle.kumir_lexer.specs.Fronts as fronts;
+ghost use Rattle.kumir_lexer.specs.Prefixes as prefixes;
 
 use crate::spelling::sign_of;
 use unicode::properties::is_alphabetic;
@@ -64,7 +64,7 @@ pub fn begins(named: bool, c: char) -> bool
 }
 
 pub fn word_len(text: &[char]) -> usize
-    ensures front { result ≡ prefix_len classes.in_word text.now }
+    ensures prefix { result ≡ prefix_len classes.in_word text.now }
     ensures within { result ≤ length text.now }
 {
     let mut n = 0;
@@ -75,7 +75,7 @@ pub fn word_len(text: &[char]) -> usize
 }
 
 pub fn digits_len(text: &[char]) -> usize
-    ensures front { result ≡ prefix_len classes.is_digit text.now }
+    ensures prefix { result ≡ prefix_len classes.is_digit text.now }
     ensures within { result ≤ length text.now }
 {
     let mut n = 0;
@@ -86,7 +86,7 @@ pub fn digits_len(text: &[char]) -> usize
 }
 
 fn unquoted_len(text: &[char]) -> usize
-    ensures front { result ≡ prefix_len (λ c. not (classes.is_quote c)) text.now }
+    ensures prefix { result ≡ prefix_len (λ c. not (classes.is_quote c)) text.now }
     ensures within { result ≤ length text.now }
 {
     let mut n = 0;
@@ -97,7 +97,7 @@ fn unquoted_len(text: &[char]) -> usize
 }
 
 fn sign_width(text: &[char]) -> usize
-    ensures width { result ≡ fronts.sign_width text.now }
+    ensures width { result ≡ prefixes.sign_width text.now }
     ensures within { result ≤ length text.now }
 {
     match text {
@@ -107,7 +107,7 @@ fn sign_width(text: &[char]) -> usize
 }
 
 fn exponent_len(text: &[char]) -> usize
-    ensures front { result ≡ fronts.exponent_len text.now }
+    ensures prefix { result ≡ prefixes.exponent_len text.now }
     ensures within { result ≤ length text.now }
 {
     match text {
@@ -121,7 +121,7 @@ fn exponent_len(text: &[char]) -> usize
 }
 
 fn fraction_len(text: &[char]) -> usize
-    ensures front { result ≡ fronts.fraction_len text.now }
+    ensures prefix { result ≡ prefixes.fraction_len text.now }
     ensures within { result ≤ length text.now }
 {
     match text {
@@ -134,7 +134,7 @@ fn fraction_len(text: &[char]) -> usize
 }
 
 fn scale_len(text: &[char]) -> usize
-    ensures front { result ≡ fronts.scale_len text.now }
+    ensures prefix { result ≡ prefixes.scale_len text.now }
     ensures within { result ≤ length text.now }
 {
     let fraction = fraction_len(text);
@@ -142,7 +142,7 @@ fn scale_len(text: &[char]) -> usize
 }
 
 pub fn real_len(text: &[char]) -> usize
-    ensures front { result ≡ fronts.real_len text.now }
+    ensures prefix { result ≡ prefixes.real_len text.now }
     ensures within { result ≤ length text.now }
 {
     let digits = digits_len(text);
@@ -151,7 +151,7 @@ pub fn real_len(text: &[char]) -> usize
 }
 
 pub fn literal_len(text: &[char]) -> usize
-    ensures front { result ≡ fronts.literal_len text.now }
+    ensures prefix { result ≡ prefixes.literal_len text.now }
     ensures within { result ≤ length text.now }
 {
     match text {
@@ -165,7 +165,7 @@ pub fn literal_len(text: &[char]) -> usize
 
 pub fn sign_len(text: &[char]) -> usize
     requires { 1 ≤ length text.now }
-    ensures front { result ≡ fronts.sign_len text.now }
+    ensures prefix { result ≡ prefixes.sign_len text.now }
     ensures within { result ≤ length text.now }
 {
     if 2 <= text.len() && sign_of(&text[..2]).is_some() {

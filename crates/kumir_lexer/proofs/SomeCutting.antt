@@ -7,13 +7,14 @@ use Rattle.std.proofs.lemmas.List.{length-drop}
 use Rattle.kumir_tree.specs.declared.token.Token.{Token}
 use Rattle.kumir_tree.specs.declared.token.Token.TheVariants as token
 use Rattle.kumir_tree.specs.declared.token.Spanned.{Spanned}
+use Rattle.kumir_tree.specs.declared.fault_codes.TheConstants.{NUMBER_TOO_LARGE, REAL}
 use Rattle.kumir_lexer.specs.declared.cutting.Class.{Class}
 use Rattle.kumir_lexer.specs.declared.cutting.Class.TheVariants.{Word, Number, Real, Literal, Sign}
 use Rattle.kumir_lexer.specs.declared.cutting.LexFault.{LexFault}
 use Rattle.kumir_lexer.specs.declared.cutting.Reading.TheVariants as reading
 use Rattle.kumir_lexer.specs.Spelling.{key_of, sign_of}
 use Rattle.kumir_lexer.specs.Classes.{is_blank, begins_comment, is_digit, is_quote, marks_exponent, begins, value, HasShape, Longest, NoneStands}
-use Rattle.kumir_lexer.specs.Fronts.{with_digits, sign_width, exponent_len, fraction_len, scale_len, real_len, literal_len, sign_len}
+use Rattle.kumir_lexer.specs.Prefixes.{with_digits, sign_width, exponent_len, fraction_len, scale_len, real_len, literal_len, sign_len}
 use Rattle.kumir_lexer.specs.Cutting.{names_reals, Spells, IsRefused, bad_code, is_name, Cuts, Cut}
 use Rattle.kumir_lexer.specs.Joined.{joined}
 use Rattle.std.proofs.lemmas.Grind.{get_or_default_zero}
@@ -21,7 +22,7 @@ use Rattle.kumir_lexer.proofs.Digits.{prefix_fits}
 use Rattle.kumir_lexer.proofs.Longest.{longest_word_at, longest_number_at, longest_real_at, longest_literal_at, longest_sign_at, no_literal_at, no_sign_at}
 use Rattle.kumir_lexer.proofs.Steps.{cut_blank_at, over_comment, over_end, cut_token, cut_fault, token_here}
 
--- ---- no front is longer than its text
+-- ---- no prefix is longer than its text
 
 with_fits : (a d : ℕ) → with_digits a d ≤ a + d
 with_fits a d = elim (d == 0) as (λ b. cond b 0 (a + d) ≤ a + d) [ true ↦ omega arith | false ↦ omega arith ]
@@ -66,7 +67,7 @@ literal_fits (c ∷ cs) = grind arith
 sign_len_fits : (text : List ℕ) → 1 ≤ length text → sign_len text ≤ length text
 sign_len_fits text l = grind arith
 
--- ---- what stands at a front
+-- ---- what a prefix is
 
 abbrev Found : Bool → List ℕ → Type 0
 Found named text = ((class : Class) × (n : ℕ) × Longest named class text n) ⊎ NoneStands named text
@@ -118,16 +119,16 @@ says Word text h =
       | Some k ↦ λ e. inl (token.Key k, e)
       | None ↦ λ e.
           elim (names_reals text) as (λ b. names_reals text ≡ b → Says Word text) [
-            | true ↦ λ r. inr (104, (r, refl))
+            | true ↦ λ r. inr (REAL, (r, refl))
             | false ↦ λ r. inl (token.Named text, (e, r, refl))
           ] refl
     ] refl
 says Number text h =
     ⊎_elim
-    (λ (large : 2147483647 < value text). inr (103, (large, refl)))
+    (λ (large : 2147483647 < value text). inr (NUMBER_TOO_LARGE, (large, refl)))
     (λ (fits : value text ≤ 2147483647). inl (token.Number (pos (value text)), (fits, refl)))
     (order 2147483647 (value text))
-says Real text h = inr (104, refl)
+says Real text h = inr (REAL, refl)
 says Literal text h = inl (token.Literal h.0, h.2)
 says Sign text h =
     elim (sign_of text) as (λ o. sign_of text ≡ o → is_some o ≡ true → Says Sign text) [

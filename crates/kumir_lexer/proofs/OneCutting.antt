@@ -12,7 +12,7 @@ use Rattle.kumir_lexer.specs.Spelling.{is_text, key_of, sign_of}
 use Rattle.kumir_lexer.specs.Classes.{Longest, NoneStands}
 use Rattle.kumir_lexer.specs.Cutting.{names_reals, Spells, IsRefused, bad_code, IsFaulty, IsToken, is_name, Cuts, Cut}
 use Rattle.kumir_lexer.specs.Joined.{joined}
-use Rattle.kumir_lexer.proofs.Only.{one_place, over_or_not, one_longest, differ}
+use Rattle.kumir_lexer.proofs.OneToken.{one_place, over_or_not, one_longest, differ}
 
 some_same : {T : Type 0} (a b : T) (o : Option T) → o ≡ Some a → o ≡ Some b → a ≡ b
 some_same a b o e f = let g : Some a ≡ Some b = sym e ∙ f in cc
@@ -36,23 +36,23 @@ two_numbers text (token.Number m) (token.Number n) s r = ap token.Number (s.1 �
 two_numbers text (token.Number m) b s r = absurd r
 two_numbers text a b s r = absurd s
 
-same_front : (xs ys : List ℕ) → xs ++ 34 ∷ [] ≡ ys ++ 34 ∷ [] → xs ≡ ys
-same_front [] [] e = refl
-same_front [] (y ∷ ys) e = absurd (no_end ys (ap (λ l. drop 1 l) e)) where
+same_prefix : (xs ys : List ℕ) → xs ++ 34 ∷ [] ≡ ys ++ 34 ∷ [] → xs ≡ ys
+same_prefix [] [] e = refl
+same_prefix [] (y ∷ ys) e = absurd (no_end ys (ap (λ l. drop 1 l) e)) where
   no_end : (ys : List ℕ) → [] ≡ ys ++ 34 ∷ [] → ⊥
   no_end [] e = cc
   no_end (y ∷ ys) e = cc
-same_front (x ∷ xs) [] e = absurd (no_end xs (ap (λ l. drop 1 l) (sym e))) where
+same_prefix (x ∷ xs) [] e = absurd (no_end xs (ap (λ l. drop 1 l) (sym e))) where
   no_end : (ys : List ℕ) → [] ≡ ys ++ 34 ∷ [] → ⊥
   no_end [] e = cc
   no_end (y ∷ ys) e = cc
-same_front (x ∷ xs) (y ∷ ys) e =
+same_prefix (x ∷ xs) (y ∷ ys) e =
     let head : x ≡ y = ap (λ l. get_or l 0 0) e in
-    let tail = same_front xs ys (ap (λ l. drop 1 l) e) in
+    let tail = same_prefix xs ys (ap (λ l. drop 1 l) e) in
     (λ i. head i ∷ tail i)
 
 two_literals : (text : List ℕ) (a b : Token) → Spells Literal text a → Spells Literal text b → a ≡ b
-two_literals text (token.Literal xs) (token.Literal ys) s r = ap token.Literal (same_front xs ys (ap (λ l. drop 1 l) (sym s ∙ r)))
+two_literals text (token.Literal xs) (token.Literal ys) s r = ap token.Literal (same_prefix xs ys (ap (λ l. drop 1 l) (sym s ∙ r)))
 two_literals text (token.Literal xs) b s r = absurd r
 two_literals text a b s r = absurd s
 
