@@ -1,5 +1,5 @@
 //! Numbers as they are read. Each has one spelling: decimal, with no leading zero and no sign but a `-` before a
-//! number below zero (docs/LANGUAGE.md, "Script").
+//! number below zero (docs/PROGRAM.md, "Script").
 ghost use Rattle.std.specs.Prelude.{◌≡◌, IfOk};
 ghost use Rattle.decimals.specs.Numbers.{number_of, whole_of, wide_of};
 

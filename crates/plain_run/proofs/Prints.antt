@@ -11,7 +11,7 @@ use Rattle.kumir_tree.specs.declared.token.Spanned.{Spanned}
 use Rattle.kumir_lexer.specs.declared.cutting.LexFault.{LexFault}
 use Rattle.kumir_lexer.specs.Cutting.{Cut}
 use Rattle.kumir_lexer.specs.Printed.{printed_tokens}
-use Rattle.kumir_lexer.proofs.Some.{some_cut}
+use Rattle.kumir_lexer.proofs.SomeCutting.{some_cut}
 use Rattle.km_ports.specs.Whole.{PutsPrefix}
 use Rattle.kumir_tree.specs.Lines.{lines_of}
 use Rattle.km_ports.specs.declared.status.Status.TheVariants as status

@@ -1,5 +1,5 @@
 -- The answer rule: which entry answers a request, where these requests were answered before and these entries stand
--- before. docs/LANGUAGE.md, "Transcript".
+-- before. docs/PROGRAM.md, "Transcript".
 use Rattle.std.specs.Prelude.{ℕ, ◌≡◌, ◌+◌, ◌⊎◌, Bool, true, false, List, [], ◌∷◌, ◌++◌, Result, Ok, Err}
 use Rattle.std.specs.List.{Contains, count_by, fold}
 use Rattle.kumir_values.specs.declared.run_end.EndKind.{EndKind}

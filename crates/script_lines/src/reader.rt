@@ -41,7 +41,7 @@ impl ScriptReader {
         }
     }
 
-    /// Takes the next piece of the script, and answers the requests that it completes (docs/LANGUAGE.md, "Script").
+    /// Takes the next piece of the script, and answers the requests that it completes (docs/PROGRAM.md, "Script").
     /// However a script is cut into pieces, the requests are those of the script. After want of memory the reader only
     /// answers want of memory.
     pub fn feed(&mut self, piece: &[u8]) -> Result<Requests, Memory>

@@ -77,7 +77,7 @@ fn push_entry(entries: &mut Entries, entry: Entry) -> Result<(), Memory>
     Ok(())
 }
 
-/// The entries whose print the bytes are (docs/LANGUAGE.md, "Transcript"). `NotEntry` comes exactly where there are
+/// The entries whose print the bytes are (docs/PROGRAM.md, "Transcript"). `NotEntry` comes exactly where there are
 /// none, with the first line that no entry prints; a last part without a line feed counts as a line.
 pub fn read_entries(alloc: Global, bytes: &[u8]) -> Result<Entries, TranscriptRefusal>
     requires { length bytes.now < 4294967295 }

@@ -1,8 +1,9 @@
-use crate::{
+use km_base::{Memory, Performer};
+use performer_kit::{
     Command, PenCommand, PenShape, Reply, Report, RobotCommand, Segment, pen_shape, pen_shape_of,
     performer_of, performer_of_name, print_command, robot_command, robot_command_of,
 };
-use km_base::Performer;
+use std::alloc::{AllocError, Global};
 use std::test::Fail;
 
 const ROBOT_NAMES: [(&str, RobotCommand, &str); 15] = [
@@ -80,47 +81,78 @@ const OTHER_NAMES: [&str; 12] = [
     "Робот Чертежник",
 ];
 
+// Whether this is what is found by the name as a text, and by its characters.
+fn finds_performer(
+    alloc: Global,
+    name: &str,
+    found: Option<Performer>,
+) -> Result<bool, AllocError> {
+    let letters: Vec<char> = name.chars().collect(alloc)?;
+    Ok(performer_of(name) == found && performer_of_name(&letters) == found)
+}
+
+fn finds_robot_command(
+    alloc: Global,
+    name: &str,
+    found: Option<RobotCommand>,
+) -> Result<bool, AllocError> {
+    let letters: Vec<char> = name.chars().collect(alloc)?;
+    Ok(robot_command(name) == found && robot_command_of(&letters) == found)
+}
+
+fn finds_pen_shape(alloc: Global, name: &str, found: Option<PenShape>) -> Result<bool, AllocError> {
+    let letters: Vec<char> = name.chars().collect(alloc)?;
+    Ok(pen_shape(name) == found && pen_shape_of(&letters) == found)
+}
+
+fn is_printed_as(alloc: Global, command: Command, printed: &str) -> Result<bool, Memory> {
+    let text = print_command(alloc, command)?;
+    Ok(text.as_str() == printed)
+}
+
 #[test]
 fn every_robot_name_is_found_and_printed(rt: HostRuntime) -> Result<(), Fail> {
+    let alloc = rt.alloc();
     for (name, command, printed) in ROBOT_NAMES {
-        let letters = name.chars().collect::<Vec<char>>(rt.alloc())?;
-        assert_eq!(rt; robot_command(name), Some(command), "{name}");
-        assert_eq!(rt; robot_command_of(&letters), Some(command), "{name}");
-        assert_eq!(rt; pen_shape(name), None, "{name}");
-        let text = print_command(rt.alloc(), Command::Robot(command))?;
-        assert_eq!(rt; text.as_str(), printed);
+        let right = finds_robot_command(alloc, name, Some(command))?
+            && finds_pen_shape(alloc, name, None)?
+            && is_printed_as(alloc, Command::Robot(command), printed)?;
+        assert!(rt; right, "{name}");
     }
     Ok(())
 }
 
 #[test]
 fn every_pen_name_is_found_and_printed(rt: HostRuntime) -> Result<(), Fail> {
+    let alloc = rt.alloc();
     for (name, shape, command, printed) in PEN_NAMES {
-        let letters = name.chars().collect::<Vec<char>>(rt.alloc())?;
-        assert_eq!(rt; pen_shape(name), Some(shape), "{name}");
-        assert_eq!(rt; pen_shape_of(&letters), Some(shape), "{name}");
-        assert_eq!(rt; robot_command(name), None, "{name}");
-        let text = print_command(rt.alloc(), Command::Pen(command))?;
-        assert_eq!(rt; text.as_str(), printed);
+        let right = finds_pen_shape(alloc, name, Some(shape))?
+            && finds_robot_command(alloc, name, None)?
+            && is_printed_as(alloc, Command::Pen(command), printed)?;
+        assert!(rt; right, "{name}");
     }
     Ok(())
 }
 
 #[test]
-fn performers_are_found_and_near_misses_are_not(rt: HostRuntime) -> Result<(), Fail> {
+fn performers_are_found(rt: HostRuntime) -> Result<(), Fail> {
     for (name, performer) in [("Робот", Performer::Robot), ("Чертежник", Performer::Pen)] {
-        let letters = name.chars().collect::<Vec<char>>(rt.alloc())?;
-        assert_eq!(rt; performer_of(name), Some(performer), "{name}");
-        assert_eq!(rt; performer_of_name(&letters), Some(performer), "{name}");
+        assert!(rt;
+            finds_performer(rt.alloc(), name, Some(performer))?,
+            "{name}"
+        );
     }
+    Ok(())
+}
+
+#[test]
+fn near_misses_are_not_found(rt: HostRuntime) -> Result<(), Fail> {
+    let alloc = rt.alloc();
     for name in OTHER_NAMES {
-        let letters = name.chars().collect::<Vec<char>>(rt.alloc())?;
-        assert_eq!(rt; performer_of(name), None, "{name}");
-        assert_eq!(rt; performer_of_name(&letters), None, "{name}");
-        assert_eq!(rt; robot_command(name), None, "{name}");
-        assert_eq!(rt; robot_command_of(&letters), None, "{name}");
-        assert_eq!(rt; pen_shape(name), None, "{name}");
-        assert_eq!(rt; pen_shape_of(&letters), None, "{name}");
+        let right = finds_performer(alloc, name, None)?
+            && finds_robot_command(alloc, name, None)?
+            && finds_pen_shape(alloc, name, None)?;
+        assert!(rt; right, "{name}");
     }
     Ok(())
 }
