@@ -4,3 +4,4 @@ pub mod Parts
 pub mod Seen
 pub mod Sounds
 pub mod Wholes
+pub mod OneFullAnalysis

@@ -17,7 +17,7 @@ use Rattle.type_check.specs.Margin.{program_faults, IsMarginOf}
 use Rattle.type_check.specs.Refused.{IsRefusalOf}
 use Rattle.type_check.specs.declared.refusal.CleanRefusal.{CleanRefusal}
 use Rattle.type_check.specs.declared.refusal.CleanRefusal.TheVariants.{Faults, Memory}
-use Rattle.type_check.proofs.First.{units_seen}
+use Rattle.type_check.proofs.FirstUnit.{units_seen}
 use Rattle.type_check.proofs.OneMargin.{has_one_margin}
 use Rattle.incr_analysis.specs.Full.{AreUnits, IsAnalysis, Full, is_empty, takes_nothing}
 use Rattle.incr_analysis.specs.Seen.{AnalysedText}

@@ -2,20 +2,19 @@
 
 ghost use Rattle.std.specs.Prelude.{◌≡◌, [], IfOk, IfErr, OnOk};
 ghost use Rattle.std.specs.Arc.{arc_value};
-ghost use Rattle.kumir_tree.specs.Units.{placed_of};
 ghost use Rattle.type_check.specs.Margin.{first_head};
 ghost use Rattle.type_rules.specs.Headers.{some_head_behind};
 ghost use Rattle.type_check.specs.Placed.{units_in};
 ghost use Rattle.incr_analysis.specs.Full.{AreUnits, Full, has_main};
 ghost use Rattle.incr_analysis.specs.Answers.{IsRefusedWith};
 
-use kumir_tree::{Header, PlacedUnit, Units};
+use kumir_tree::{Header, Units};
 use margins::Margin;
 use std::alloc::Global;
 use std::marker::Model;
 use std::sync::Arc;
 use text_versions::Text;
-use type_check::{Clean, CleanRefusal, clean_of};
+use type_check::{Clean, CleanRefusal, clean_of, first_header};
 
 /// A version of a text with its margin, which is the full analysis of the text. Contracts see the number of the version,
 /// the lines, the units, each with its first line, and the margin.
@@ -45,13 +44,6 @@ impl Model for Analysed {
     ghost view = { λ a. record { version = a.version; text = arc_value a.text; units = reads_of a.units; margin = a.margin } };
 
     ghost invariant = { λ a. IsSound (units_of a.units) × IsAnalysis (arc_value a.text) (units_of a.units) a.margin };
-}
-
-// The header of a unit, where it is understood.
-fn header_of(unit: &PlacedUnit) -> Option<&Header>
-    ensures { some_head_behind result ≡ (placed_of unit.now).1.head }
-{
-    unit.read.header.as_ref()
 }
 
 impl Analysed {
@@ -90,15 +82,12 @@ impl Analysed {
     }
 
     // The header of the first algorithm.
-    #[tactic(auto, using(type_check::proofs::First::main_found, type_check::proofs::First::no_main))]
+    #[tactic(auto, using(type_check::proofs::FirstUnit::first_seen))]
     fn first_header(&self) -> Option<&Header>
         ensures header { some_head_behind result ≡ first_head (units_in self.now.units) }
         ensures of_text { AreUnits self.now.text (units_in self.now.units) }
     {
-        match self.units.get(1) {
-            Some(unit) => header_of(unit),
-            None => None,
-        }
+        first_header(&self.units)
     }
 
     /// Whether there is a first algorithm and it has no parameters. The margin has no mark.

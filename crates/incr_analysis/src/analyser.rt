@@ -15,9 +15,9 @@ use crate::analysed::Analysed;
 use crate::stop::Stop;
 use algo_parser::{LineSpan, read_unit, split_units};
 use km_base::{Ledger, Memory, Steps};
-use kumir_tree::{Line, PlacedUnit, Units};
+use kumir_tree::{Line, PlacedUnit, UnitRead, Units};
 use sqlite_items::Items;
-use std::alloc::Global;
+use std::alloc::{AllocError, Global};
 use std::sync::Arc;
 use text_versions::Text;
 use type_check::margin_of;
@@ -56,6 +56,13 @@ fn newer_than<S: Stop>(stop: &mut S, version: u32) -> Option<u32>
     }
 }
 
+// What was read, to be shared.
+fn shared(alloc: Global, read: UnitRead) -> Result<Arc<UnitRead>, AllocError>
+    ensures { IfOk result (λ shared. arc_value shared ≡ read) }
+{
+    Ok(Arc::new(alloc, read)?)
+}
+
 // What is read from the lines of a span, at its place in the text.
 fn read_span<R: Ledger>(
     alloc: Global,
@@ -75,12 +82,9 @@ fn read_span<R: Ledger>(
     let first = span.first as usize - 1;
     let part = &lines[first..first + span.count as usize];
     let read = read_unit(alloc, part, prelude, reads)?;
-    let Ok(read) = Arc::new(alloc, read) else {
-        return Err(Memory);
-    };
     Ok(PlacedUnit {
         first: span.first,
-        read,
+        read: shared(alloc, read)?,
     })
 }
 

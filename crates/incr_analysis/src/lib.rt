@@ -3,8 +3,10 @@
 
 mod analysed;
 mod analyser;
+mod laws;
 mod stop;
 
 pub use analysed::Analysed;
 pub use analyser::{Analyser, Analysis};
+pub use laws::one_analysis;
 pub use stop::{NeverStop, Stop};

@@ -4,7 +4,7 @@ use incr_analysis::{Analysed, Analyser, Analysis, NeverStop, Stop};
 use km_base::{Ledger, Memory, Steps};
 use kumir_tree::{Line, Lines};
 use sqlite_items::Items;
-use std::alloc::{AllocError, Global};
+use std::alloc::Global;
 use std::sync::Arc;
 use std::test::Fail;
 use text_versions::Text;
@@ -37,26 +37,18 @@ impl Stop for Once {
     }
 }
 
-// The line with this text, which has no line feed.
-fn line_of(alloc: Global, text: &str) -> Result<Line, AllocError> {
-    if text.contains('\n') {
-        return Err(AllocError);
-    }
-    Line::new(alloc, text)
-}
-
 fn text_of(alloc: Global, text: &str) -> Result<Arc<Text>, Memory> {
     let mut lines: Lines = Items::new(alloc);
     for line in text.lines() {
-        lines.push(line_of(alloc, line)?)?;
+        let Ok(line) = Line::of_text(alloc, line) else {
+            return Err(Memory);
+        };
+        lines.push(line)?;
     }
     let Ok(text) = Text::from_lines(alloc, lines) else {
         return Err(Memory);
     };
-    let Ok(text) = Arc::new(alloc, text) else {
-        return Err(Memory);
-    };
-    Ok(text)
+    Ok(text.shared(alloc)?)
 }
 
 // What comes of the analysis of a version of a text.

@@ -3,18 +3,13 @@ use std::alloc::{AllocError, Global};
 use std::test::Fail;
 use text_versions::{ApplyRefusal, Edit, TEXT_LIMITS, Text, TextRefusal, Versions};
 
-/// The line with this text, which has no line feed.
-fn line_of(alloc: Global, text: &str) -> Result<Line, AllocError> {
-    if text.contains('\n') {
-        return Err(AllocError);
-    }
-    Line::new(alloc, text)
-}
-
 fn lines_of(alloc: Global, texts: &[&str]) -> Result<Lines, AllocError> {
     let mut lines = Lines::new(alloc);
     for text in texts {
-        lines.push(line_of(alloc, text)?)?;
+        let Ok(line) = Line::of_text(alloc, text) else {
+            return Err(AllocError);
+        };
+        lines.push(line)?;
     }
     Ok(lines)
 }

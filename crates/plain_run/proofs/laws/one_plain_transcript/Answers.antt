@@ -1,8 +1,11 @@
+use Rattle.plain_run.specs.OnePlain.{HaveOneAnalysis}
 use Rattle.plain_run.proofs.OnePlain.{some_plain, one_plain}
 use Rattle.plain_run.proofs.laws.one_plain_transcript.Goals as goal
 
 pub returns-clause-some : goal.returns-clause-some
-returns-clause-some c = some_plain
+returns-clause-some c =
+    some_plain (record { some = λ lines within. c.one_analysis.ensures.some lines; one = λ lines a b within. c.one_analysis.ensures.only lines a b })
 
 pub returns-clause-one : goal.returns-clause-one
-returns-clause-one c = one_plain
+returns-clause-one c =
+    one_plain (record { some = λ lines within. c.one_analysis.ensures.some lines; one = λ lines a b within. c.one_analysis.ensures.only lines a b })
