@@ -1,12 +1,15 @@
 -- The answers for a piece.
-use Rattle.std.proofs.Common.{◌≡◌, ◌≢◌, ◌↔◌, List, Some, None, Bool, true, false, Result, Ok, Err, IfOk, IsOk, IsTrue, sym, ◌∙◌, refl}
+use Rattle.std.proofs.Common.{zero, suc, ◌≡◌, ◌≢◌, ◌↔◌, ◌⊎◌, inl, inr, ⊎_elim, ℕ, ◌+◌, ◌<◌, ◌≤◌, List, [], ◌∷◌, length, take, Option, Some, None, Bool, true, false, Result, Ok, Err, IfOk, IsOk, IsTrue, ap, sym, subst, ◌∙◌, refl, arith}
+use Rattle.std.proofs.lemmas.List.{take_all}
+use Rattle.std.proofs.lemmas.Bool.{cases_lt}
 use Rattle.kumir_tree.specs.declared.form.Form.{Form}
 use Rattle.kumir_tree.specs.declared.token.Token.{Token}
 use Rattle.kumir_tree.specs.Pieces.{piece_of}
 use Rattle.expr_forms.specs.declared.fault.PieceFault.{PieceFault}
 use Rattle.expr_forms.specs.declared.fault.PieceFault.TheVariants.{Memory, NotUnderstood, TooDeep}
 use Rattle.expr_forms.specs.Answers.{IsShallow, HasForm, HasNoForm}
-use Rattle.expr_forms.specs.Brackets.{IsDeep}
+use Rattle.kumir_tree.specs.Piece.{Piece}
+use Rattle.expr_forms.specs.Brackets.{IsDeep, open_behind}
 use Rattle.expr_forms.specs.Forms.{IsForm}
 use Rattle.expr_forms.specs.FormReading.{whole}
 use Rattle.expr_forms.proofs.Cases.{none_is}
@@ -41,3 +44,44 @@ not_understood ts s (Ok f) w m = ((λ h. absurd (let none : ⊥ = cc in none)), 
 not_understood ts s (Err Memory) w m = absurd (m refl)
 not_understood ts s (Err NotUnderstood) w m = ((λ h. (s, no_form ts (w.none refl))), λ h. refl)
 not_understood ts s (Err TooDeep) w m = absurd (w.not_deep refl)
+
+-- ---- whether there is a form, and whether too many brackets are open
+
+form_by : (ts : List Token) (o : Option Piece) → whole ts ≡ o → HasForm ts ⊎ HasNoForm ts
+form_by ts None e = inr (no_form ts e)
+form_by ts (Some p) e = inl (p, whole_sound ts p e)
+
+pub form_or_none : (ts : List Token) → HasForm ts ⊎ HasNoForm ts
+form_or_none ts = form_by ts (whole ts) refl
+
+-- at each of the first places few brackets are open
+abbrev FewUpTo : List Token → ℕ → Type 0
+FewUpTo ts n = (k : ℕ) → k ≤ n → open_behind (take k ts) ≤ 100
+
+deep_up_to : (ts : List Token) (n : ℕ) → IsDeep ts ⊎ FewUpTo ts n
+deep_up_to ts zero = inr (λ k h. subst (λ j. open_behind (take j ts) ≤ 100) (let e : 0 ≡ k = omega arith in e) (subst (λ l. open_behind l ≤ 100) (sym (take_none ts)) (omega arith)))
+  where
+    take_none : (ts : List Token) → take 0 ts ≡ []
+    take_none [] = refl
+    take_none (t ∷ ts) = refl
+deep_up_to ts (suc n) =
+    ⊎_elim
+    (λ (deep : IsDeep ts). inl deep)
+    (λ (few : FewUpTo ts n).
+    ⊎_elim
+    (λ (more : 100 < open_behind (take (suc n) ts)). inl (suc n, more))
+    (λ (less : open_behind (take (suc n) ts) ≤ 100). inr (λ k h. ⊎_elim (λ (below : k < suc n). few k (omega arith)) (λ (here : suc n ≤ k). subst (λ j. open_behind (take j ts) ≤ 100) (let e : suc n ≡ k = omega arith in e) less) (cases_lt k (suc n))))
+    (cases_lt 100 (open_behind (take (suc n) ts))))
+    (deep_up_to ts n)
+
+few_everywhere : (ts : List Token) → FewUpTo ts (length ts) → IsShallow ts
+few_everywhere ts few deep =
+    ⊎_elim
+    (λ (within : deep.0 < length ts). let none : ⊥ = omega (arith, few deep.0 (omega arith), deep.1) in none)
+    (λ (past : length ts ≤ deep.0).
+    let same : take deep.0 ts ≡ take (length ts) ts = take_all deep.0 ts past ∙ sym (take_all (length ts) ts (omega arith)) in
+    let none : ⊥ = omega (arith, few (length ts) (omega arith), deep.1, ap open_behind same) in none)
+    (cases_lt deep.0 (length ts))
+
+pub deep_or_shallow : (ts : List Token) → IsDeep ts ⊎ IsShallow ts
+deep_or_shallow ts = ⊎_elim (λ (deep : IsDeep ts). inl deep) (λ (few : FewUpTo ts (length ts)). inr (few_everywhere ts few)) (deep_up_to ts (length ts))

@@ -10,3 +10,4 @@ pub mod PartReading
 pub mod HeaderReading
 pub mod FormReading
 pub mod Nests
+pub mod Laws

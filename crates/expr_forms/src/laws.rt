@@ -1,18 +1,19 @@
 //! The laws of the grammar, which no code needs to run.
 
-ghost use Rattle.std.specs.Prelude.{List, ◌≡◌};
-ghost use Rattle.kumir_tree.specs.declared.token.Token.{Token};
-ghost use Rattle.kumir_tree.specs.Piece.{Piece};
-ghost use Rattle.kumir_tree.specs.Tree.{Tree};
-ghost use Rattle.expr_forms.specs.Forms.{IsForm};
-ghost use Rattle.expr_forms.specs.Grammar.{IsExpr};
+ghost use Rattle.expr_forms.specs.Laws.{OneExpression, OneForm, HasFormOrNone, IsDeepOrShallow};
 
 /// A list of tokens is at most one expression.
 pub fn one_expression()
-    ensures { (ts : List Token) (x y : Tree) → IsExpr ts x → IsExpr ts y → x ≡ y }
+    ensures { OneExpression }
 {}
 
 /// A list of tokens has at most one form.
 pub fn one_form()
-    ensures { (ts : List Token) (p q : Piece) → IsForm ts p → IsForm ts q → p ≡ q }
+    ensures { OneForm }
+{}
+
+/// For each list of tokens it is decided whether it has a form, and whether too many brackets are open in it.
+pub fn form_or_none()
+    ensures form { HasFormOrNone }
+    ensures depth { IsDeepOrShallow }
 {}

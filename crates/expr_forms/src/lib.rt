@@ -13,5 +13,5 @@ mod pending;
 mod piece;
 
 pub use fault::PieceFault;
-pub use laws::{one_expression, one_form};
+pub use laws::{form_or_none, one_expression, one_form};
 pub use piece::read_piece;

@@ -11,3 +11,4 @@ pub mod Pieces
 pub mod Units
 pub mod Lines
 pub mod Sound
+pub mod FaultCodes

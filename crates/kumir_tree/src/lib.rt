@@ -6,11 +6,10 @@ pub mod fault_codes;
 mod form;
 mod header;
 mod kind;
+mod laws;
 mod line;
 mod names;
 mod statement;
-#[cfg(test)]
-mod tests;
 mod token;
 mod unit;
 
@@ -18,7 +17,8 @@ pub use expr::{BoundExpr, BoundExprs, Expr, Exprs, copy_bounds, copy_exprs, copy
 pub use form::Form;
 pub use header::{Header, Param, Params, copy_params};
 pub use kind::{Kind, Mode, Op};
-pub use line::{Line, Lines};
+pub use laws::fault_codes_are;
+pub use line::{Line, LineRefusal, Lines};
 pub use names::{Chars, Name, Names, copy_names, copy_some_name};
 pub use statement::{
     Block, Case, Cases, Declared, Item, OutputItems, Statement, TableName, TableNames, Target,

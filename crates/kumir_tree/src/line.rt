@@ -1,5 +1,5 @@
 //! Lines of a text.
-ghost use Rattle.std.specs.Prelude.{◌≡◌, ◌↔◌, nat_eq, IsTrue, IfOk};
+ghost use Rattle.std.specs.Prelude.{◌≡◌, ◌≢◌, ◌↔◌, nat_eq, true, false, IsTrue, IfOk, Contains};
 ghost use Rattle.std.proofs.Common.{rules};
 ghost use Rattle.std.specs.Cmp.Rules.{comparing, hashing};
 ghost use Rattle.std.specs.Cmp.Lexicographic.{pointwise};
@@ -12,6 +12,25 @@ use sqlite_items::Items;
 use std::alloc::{AllocError, Global};
 use std::hash::{Hash, Hasher};
 use std::marker::Model;
+
+/// Why a text is no line.
+#[derive(Clone, Copy, Debug, PartialEq, Eq)]
+pub enum LineRefusal {
+    /// It has a line feed.
+    LineFeed,
+    Memory,
+}
+
+impl From<AllocError> for LineRefusal {
+    ghost use Rattle.std.specs.Prelude.{◌≡◌};
+    ghost use Rattle.kumir_tree.specs.declared.line.LineRefusal.TheVariants.{Memory};
+
+    ghost from_gives = { λ a e. e ≡ Memory };
+
+    fn from(_refused: AllocError) -> LineRefusal {
+        LineRefusal::Memory
+    }
+}
 
 /// A line of a text, seen as the list of its characters. No line feed is among them.
 #[derive(Debug, Drop)]
@@ -41,6 +60,18 @@ impl Line {
         Ok(Line {
             text: String::from_str(alloc, text)?,
         })
+    }
+
+    /// The line with this text.
+    pub fn of_text(alloc: Global, text: &str) -> Result<Line, LineRefusal>
+        ensures ok { IfOk result (λ l. l ≡ chars text.now) }
+        ensures line_feed { (result ≡ Err LineRefusal.LineFeed) ↔ Contains (chars text.now) 10 }
+        ensures one_line { result ≢ Err LineRefusal.LineFeed → IsLine (chars text.now) }
+    {
+        if has_line_feed(text) {
+            return Err(LineRefusal::LineFeed);
+        }
+        Ok(Line::new(alloc, text)?)
     }
 
     /// The line with this text, which has no line feed, without taking memory.
@@ -73,6 +104,13 @@ impl Line {
     {
         self.as_str() == other.as_str()
     }
+}
+
+fn has_line_feed(text: &str) -> bool
+    ensures yes { result ≡ true → Contains (chars text.now) 10 }
+    ensures none { result ≡ false → IsLine (chars text.now) }
+{
+    text.chars().any(|c| c == '\n')
 }
 
 impl PartialEq for Line {

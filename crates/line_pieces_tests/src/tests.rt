@@ -5,7 +5,7 @@ use km_base::Memory;
 use kumir_lexer::lex_line;
 use kumir_tree::Line;
 use line_pieces::{LineSpan, Piece, cut_pieces, split_units};
-use std::alloc::{AllocError, Global};
+use std::alloc::Global;
 use std::test::Fail;
 
 // The tests' lines have at most this many bytes.
@@ -65,14 +65,6 @@ fn lines_are_cut_into_pieces(rt: HostRuntime) -> Result<(), Fail> {
     Ok(())
 }
 
-// The line with this text, which has no line feed.
-fn line_of(alloc: Global, text: &str) -> Result<Line, AllocError> {
-    if text.contains('\n') {
-        return Err(AllocError);
-    }
-    Line::new(alloc, text)
-}
-
 fn all_short(lines: &[Line]) -> bool
     ensures { IsTrue result → AreShort lines.now }
 {
@@ -85,10 +77,10 @@ fn all_short(lines: &[Line]) -> bool
 }
 
 // Whether the lines of the text have these spans.
-fn has_spans(alloc: Global, text: &str, expected: &[(u32, u32)]) -> Result<bool, Memory> {
+fn has_spans(alloc: Global, text: &str, expected: &[(u32, u32)]) -> Result<bool, Fail> {
     let mut lines = Vec::new(alloc);
     for line in text.lines() {
-        lines.push(line_of(alloc, line)?).map_err(AllocError::from)?;
+        lines.push(Line::of_text(alloc, line)?)?;
     }
     if lines.len() >= LIMIT || !all_short(&lines) {
         return Ok(false);

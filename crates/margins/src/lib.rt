@@ -4,9 +4,7 @@
 mod margin;
 mod print;
 mod read;
-#[cfg(test)]
-mod tests;
 
 pub use margin::{Margin, Mark};
 pub use print::{print_lines, print_margin};
-pub use read::{FAULT_CODES, MarginRefusal, read_margin, read_marks, read_words};
+pub use read::{MarginRefusal, read_margin, read_marks, read_words};

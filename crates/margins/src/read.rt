@@ -8,12 +8,8 @@ ghost use Rattle.margins.specs.Printed.{mark_word, printed_margin};
 use crate::margin::{Margin, Mark};
 use crate::print::print_margin;
 use km_base::Memory;
+use kumir_tree::fault_codes::FAULT_CODES;
 use std::alloc::{AllocError, Global};
-
-/// The codes of the faults (docs/LANGUAGE.md, "Faults").
-pub const FAULT_CODES: [u16; 14] = [
-    101, 102, 103, 104, 201, 202, 301, 302, 401, 402, 403, 404, 405, 407,
-];
 
 /// Why a text was not read as a margin.
 #[derive(Clone, Copy, Debug, PartialEq, Eq)]

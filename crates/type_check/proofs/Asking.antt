@@ -7,11 +7,12 @@ use Rattle.kumir_tree.specs.declared.kind.Kind.{Kind}
 use Rattle.kumir_tree.specs.declared.kind.Kind.TheVariants.{Whole, Truth}
 use Rattle.kumir_tree.specs.Tree as t
 use Rattle.kumir_tree.specs.Tree.{Tree, Trees, no_trees, ◌then◌}
-use Rattle.kumir_tree.specs.Part.{Limits, Place, ToAnswer, ToScalar, ToElement, Shown, ShowValue, ShowText, ShowLine, Declares, Scalars, Tables, Formal}
-use Rattle.type_rules.specs.Callees.{Called}
+use Rattle.kumir_tree.specs.Part.{Limits, Place, ToAnswer, ToScalar, ToElement, Shown, ShowValue, ShowText, ShowLine, Declares, Scalars, Tables, Formal, Head}
+use Rattle.kumir_names.specs.Callees.{Callee}
 use Rattle.type_rules.specs.Counted.{fault_on}
-use Rattle.type_check.specs.declared.locals.Variable.{Variable}
-use Rattle.type_check.specs.Kinds.{Names, Among, variable, is_known, is_known_as, is_kind, are_same, given, binary_kind, name_kind, element_kind, call_kind, kind_of, arguments, is_place, whole_table}
+use Rattle.kumir_names.specs.declared.variable.Variable.{Variable}
+use Rattle.kumir_names.specs.Variables.{Names, variable}
+use Rattle.type_check.specs.Kinds.{Among, is_known, is_known_as, is_kind, are_same, kind_where, binary_kind, name_kind, element_kind, call_kind, kind_of, arguments, is_place, whole_table}
 use Rattle.type_check.specs.Parts.{Part, Parameters, Condition, Repeating, Counting, Declaring, Assigning, Calling, Reading, Printing, Pieces, pieces, names_in, all_names_in, limits_names, some_limits_names, formals_names, tables_names, declares_names, place_names, places_names, shown_names, all_shown_names, some_names_in, used_by, declared_by, bounds_fit, some_bounds_fit, formals_fit, tables_fit, declares_fit, place_kind, places_fit, shown_fits, all_shown_fit, some_whole, scalar_kind, call_fits, fits}
 use Rattle.type_check.specs.Checked.{is_local, noted, not_local, at_piece, behind, asked_from, fault_code, declared_again, part_fault, faults_from}
 use Rattle.type_check.specs.Laws.{AsksForAll}
@@ -52,7 +53,7 @@ module _ (P : List ℕ → Type 0) where
 
 -- ---- what is said among the same local names by two look-ups
 
-module _ (find other : List ℕ → Option Called) where
+module _ (find other : List ℕ → Option (Callee Head)) where
   abbrev Agree : Names → List (List ℕ) → Type 0
   Agree names xs = AllByRecursion (λ x. find x ≡ other x) (not_local names xs)
 
@@ -65,7 +66,7 @@ module _ (find other : List ℕ → Option Called) where
       by false h later = later h
 
   -- what depends on a name by its variable, or where it has none by what is found
-  of_name : {R : Type 0} (names : Names) (x : List ℕ) (xs : List (List ℕ)) (says : Option Variable → Option Called → R) → ((v : Variable) (a b : Option Called) → says (Some v) a ≡ says (Some v) b) → Agree names (x ∷ xs) → says (variable names x) (find x) ≡ says (variable names x) (other x)
+  of_name : {R : Type 0} (names : Names) (x : List ℕ) (xs : List (List ℕ)) (says : Option Variable → Option (Callee Head) → R) → ((v : Variable) (a b : Option (Callee Head)) → says (Some v) a ≡ says (Some v) b) → Agree names (x ∷ xs) → says (variable names x) (find x) ≡ says (variable names x) (other x)
   of_name {R} names x xs says local all = by (variable names x) all
     where
       by : (v : Option Variable) → AllByRecursion (λ z. find z ≡ other z) (cond (not (is_some v)) (x ∷ not_local names xs) (not_local names xs)) → says v (find x) ≡ says v (other x)
@@ -90,9 +91,9 @@ module _ (find other : List ℕ → Option Called) where
       kind_same (t.Named x) all = of_name names x [] name_kind (λ v a b. refl) all
       kind_same (t.Element x es) all = ap (element_kind (variable names x)) (arguments_same es (rest_of names x (all_names_in es) all))
       kind_same (t.Call f es) all = of_name names f (all_names_in es) (λ v c. call_kind v c (arguments here es)) (λ v a b. refl) all ∙ ap (call_kind (variable names f) (other f)) (arguments_same es (rest_of names f (all_names_in es) all))
-      kind_same (t.Plus a) all = ap (λ k. given (is_kind Whole k) Whole) (kind_same a all)
-      kind_same (t.Minus a) all = ap (λ k. given (is_kind Whole k) Whole) (kind_same a all)
-      kind_same (t.Not a) all = ap (λ k. given (is_kind Truth k) Truth) (kind_same a all)
+      kind_same (t.Plus a) all = ap (λ k. kind_where (is_kind Whole k) Whole) (kind_same a all)
+      kind_same (t.Minus a) all = ap (λ k. kind_where (is_kind Whole k) Whole) (kind_same a all)
+      kind_same (t.Not a) all = ap (λ k. kind_where (is_kind Truth k) Truth) (kind_same a all)
       kind_same (t.Binary o a b) all = let two = split names (names_in a) (names_in b) all in (λ i. binary_kind o (kind_same a two.0 i) (kind_same b two.1 i))
 
       arguments_same : (es : Trees) → Agree names (all_names_in es) → arguments here es ≡ arguments there es

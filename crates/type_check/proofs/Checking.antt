@@ -3,12 +3,13 @@ use Rattle.std.proofs.Common.{◌≡◌, ℕ, Bool, true, false, cond, ◌&&◌,
 use Rattle.std.proofs.lemmas.List.Sums.{fold-append}
 use Rattle.kumir_tree.specs.declared.kind.Kind.{Kind}
 use Rattle.kumir_tree.specs.Unit.{Algorithm}
-use Rattle.type_rules.specs.Callees.{Called}
+use Rattle.kumir_tree.specs.Part.{Head}
+use Rattle.kumir_names.specs.Callees.{Callee}
 use Rattle.type_rules.specs.Counted.{fault_on}
 use Rattle.type_check.specs.declared.parts.Part as rust
 use Rattle.type_check.specs.declared.parts.Part.TheVariants as r
 use Rattle.type_check.specs.declared.found.Found.{Found}
-use Rattle.type_check.specs.Kinds.{Names}
+use Rattle.kumir_names.specs.Variables.{Names}
 use Rattle.type_check.specs.Parts.{Pieces, pieces, used_by}
 use Rattle.type_check.specs.Checked.{is_local, at_piece, behind, noted, not_local, asked_from, asked, faults_from, unit_faults, part_fault}
 use Rattle.type_check.specs.Seen.{part_of, with_piece, nothing_found}
@@ -57,7 +58,7 @@ module _ {F P : Type 0} (f : F → P → F) where
 
 -- ---- what was found in all pieces
 
-module _ (find : List ℕ → Option Called) (gives : Option Kind) where
+module _ (find : List ℕ → Option (Callee Head)) (gives : Option Kind) where
   faults_of : (f : Found) (ps : Pieces) → (fold (with_piece find gives) f ps).faults ≡ f.faults ++ faults_from find gives f.locals ps
   unfolding with_piece
   faults_of f [] = sym (append-nil f.faults)

@@ -5,5 +5,6 @@ pub mod Checking
 pub mod Asking
 pub mod Lines
 pub mod Marked
-pub mod First
+pub mod FirstUnit
 pub mod OneMargin
+pub mod EachHasMargin

@@ -4,13 +4,13 @@ use Rattle.std.specs.List.{AllByRecursion}
 use Rattle.kumir_tree.specs.declared.kind.Kind.{Kind}
 use Rattle.kumir_tree.specs.declared.unit.Fault.{Fault}
 use Rattle.kumir_tree.specs.Tree.{Tree}
-use Rattle.kumir_tree.specs.Part.{Limits}
+use Rattle.kumir_tree.specs.Part.{Limits, Head}
 use Rattle.kumir_tree.specs.Program.{Stmt, Act, Stands, Declare, Assign, Invoke, Times, While, Count, Forever, Until, Choose, Select, Assert, Input, Output, Leave, Quit, Block, done, ◌next◌, Arms, no_arms, arm}
 use Rattle.kumir_tree.specs.Unit.{Algorithm}
 use Rattle.kumir_tree.specs.Sound.{ActHolds, StmtHolds, BlockHolds, ArmsHold, ClaimHolds, AlgorithmHolds, FaultsHold}
-use Rattle.type_rules.specs.Callees.{Called}
+use Rattle.kumir_names.specs.Callees.{Callee}
 use Rattle.type_rules.specs.Counted.{fault_on}
-use Rattle.type_check.specs.Kinds.{Names}
+use Rattle.kumir_names.specs.Variables.{Names}
 use Rattle.type_check.specs.Parts.{Pieces, pieces, claim_pieces, act_pieces, stmt_pieces, block_pieces, arms_pieces}
 use Rattle.type_check.specs.Checked.{behind, part_fault, faults_from, unit_faults}
 
@@ -58,7 +58,7 @@ module _ (L : ℕ → Type 0) (B : Limits → Type 0) where
   pieces_stand : (a : Algorithm) → AlgorithmHolds L B a → Stand (pieces a)
   pieces_stand a all = (all.0.0, join (λ p. L p.0) (claim_pieces a.given) (claim_pieces a.wanted ++ block_pieces a.body) (claim_stands a.given all.1) (join (λ p. L p.0) (claim_pieces a.wanted) (block_pieces a.body) (claim_stands a.wanted all.2) (block_stands a.body all.3)))
 
-  module _ (find : List ℕ → Option Called) (gives : Option Kind) where
+  module _ (find : List ℕ → Option (Callee Head)) (gives : Option Kind) where
     fault_stands : (line : ℕ) (code : Option ℕ) → L line → FaultsHold L (fault_on line code)
     fault_stands line None own = _
     fault_stands line (Some code) own = (own, _)
@@ -67,5 +67,5 @@ module _ (L : ℕ → Type 0) (B : Limits → Type 0) where
     all_stand names [] all = _
     all_stand names (p ∷ ps) all = join (λ f. L f.line) (fault_on p.0 (part_fault find gives names p.1)) (faults_from find gives (behind names p.1) ps) (fault_stands p.0 (part_fault find gives names p.1) all.0) (all_stand (behind names p.1) ps all.1)
 
-  pub faults_stand : (find : List ℕ → Option Called) (a : Algorithm) (faults : List Fault) → faults ≡ unit_faults find a → AlgorithmHolds L B a → FaultsHold L faults
+  pub faults_stand : (find : List ℕ → Option (Callee Head)) (a : Algorithm) (faults : List Fault) → faults ≡ unit_faults find a → AlgorithmHolds L B a → FaultsHold L faults
   faults_stand find a faults e all = subst (FaultsHold L) (sym e) (all_stand find a.head.gives [] (pieces a) (pieces_stand a all))

@@ -3,8 +3,8 @@ use Rattle.std.proofs.Common.{◌≡◌, ℕ, nat_eq, true, false, cond, List, [
 use Rattle.std.specs.Map.{lookup}
 use Rattle.std.specs.Cmp.Lexicographic.{pointwise}
 use Rattle.indexmap.specs.IndexMap.{insert_entry}
-use Rattle.type_check.specs.declared.locals.Variable.{Variable}
-use Rattle.type_check.specs.Kinds.{Names}
+use Rattle.kumir_names.specs.declared.variable.Variable.{Variable}
+use Rattle.kumir_names.specs.Variables.{Names}
 use Rattle.type_check.specs.Checked.{is_local, with_local}
 
 put_behind : (x : List ℕ) (v : Variable) (es : Names) → is_some (lookup (pointwise nat_eq x) es) ≡ false → insert_entry (pointwise nat_eq) es x v ≡ es ++ (x, v) ∷ []

@@ -4,11 +4,14 @@ use Rattle.std.specs.List.{list_any, list_all}
 use Rattle.std.specs.Cmp.Lexicographic.{pointwise}
 use Rattle.kumir_tree.specs.declared.kind.Kind.{Kind}
 use Rattle.kumir_tree.specs.declared.unit.Fault.{Fault}
+use Rattle.kumir_tree.specs.declared.fault_codes.TheConstants.{DECLARED_TWICE, UNKNOWN_NAME, TYPES_DO_NOT_FIT}
 use Rattle.kumir_tree.specs.Unit.{Algorithm}
-use Rattle.type_rules.specs.Callees.{Called}
+use Rattle.kumir_tree.specs.Part.{Head}
+use Rattle.kumir_names.specs.Callees.{Callee}
 use Rattle.type_rules.specs.Counted.{fault_on}
-use Rattle.type_check.specs.declared.locals.Variable.{Variable}
-use Rattle.type_check.specs.Kinds.{Names, Among, variable, is_known}
+use Rattle.kumir_names.specs.declared.variable.Variable.{Variable}
+use Rattle.kumir_names.specs.Variables.{Names, variable}
+use Rattle.type_check.specs.Kinds.{Among, is_known}
 use Rattle.type_check.specs.Parts.{Part, Parameters, Condition, Repeating, Counting, Declaring, Assigning, Calling, Reading, Printing, Pieces, pieces, used_by, declared_by, fits}
 
 -- ---- local names
@@ -48,24 +51,24 @@ at_piece names (Printing xs) = names
 
 -- a name declared again; else a name that is not known; else what does not fit
 abbrev pub fault_code : Bool → Bool → Bool → Option ℕ
-fault_code true known right = Some 401
-fault_code false false right = Some 402
-fault_code false true false = Some 403
+fault_code true known right = Some DECLARED_TWICE
+fault_code false false right = Some UNKNOWN_NAME
+fault_code false true false = Some TYPES_DO_NOT_FIT
 fault_code false true true = None
 
 -- the code of the fault of a piece among these names
-abbrev pub part_fault : (List ℕ → Option Called) → Option Kind → Names → Part → Option ℕ
+abbrev pub part_fault : (List ℕ → Option (Callee Head)) → Option Kind → Names → Part → Option ℕ
 part_fault find gives names p =
     let s : Among = record { find = find; gives = gives; names = at_piece names p } in
     fault_code (declared_again names (declared_by p)) (list_all (is_known s) (used_by p)) (fits s p)
 
 -- the faults of pieces behind these local names, one piece after another
-abbrev pub faults_from : (List ℕ → Option Called) → Option Kind → Names → Pieces → List Fault
+abbrev pub faults_from : (List ℕ → Option (Callee Head)) → Option Kind → Names → Pieces → List Fault
 faults_from find gives names [] = []
 faults_from find gives names (p ∷ more) = fault_on p.0 (part_fault find gives names p.1) ++ faults_from find gives (behind names p.1) more
 
--- the faults 401, 402 and 403 of an algorithm, where `find` says what the names stand for that are not local
-abbrev pub unit_faults : (List ℕ → Option Called) → Algorithm → List Fault
+-- the faults of an algorithm in its names and types, where `find` says what the names stand for that are not local
+abbrev pub unit_faults : (List ℕ → Option (Callee Head)) → Algorithm → List Fault
 unit_faults find a = faults_from find a.head.gives [] (pieces a)
 
 -- ---- the names that are asked for

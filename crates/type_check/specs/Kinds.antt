@@ -1,7 +1,5 @@
 -- The kinds of expressions. docs/LANGUAGE.md, "Types".
-use Rattle.std.specs.Prelude.{ℕ, nat_eq, nat_lt, Bool, true, false, ◌&&◌, not, if◌then◌else◌, List, [], ◌∷◌, length, Option, Some, None, is_some}
-use Rattle.std.specs.Map.{lookup}
-use Rattle.std.specs.Cmp.Lexicographic.{pointwise}
+use Rattle.std.specs.Prelude.{ℕ, nat_eq, Bool, true, false, ◌&&◌, not, if◌then◌else◌, List, [], ◌∷◌, length, Option, Some, None, is_some}
 use Rattle.kumir_tree.specs.declared.kind.Kind.{Kind}
 use Rattle.kumir_tree.specs.declared.kind.Kind.TheVariants.{Whole, Truth}
 use Rattle.kumir_tree.specs.declared.kind.Mode.{Mode}
@@ -10,34 +8,22 @@ use Rattle.kumir_tree.specs.declared.kind.Op.{Op}
 use Rattle.kumir_tree.specs.declared.kind.Op.TheVariants as op
 use Rattle.kumir_tree.specs.Tree as t
 use Rattle.kumir_tree.specs.Tree.{Tree, Trees, no_trees, ◌then◌}
-use Rattle.kumir_tree.specs.Part.{Formal}
-use Rattle.performer_kit.specs.declared.commands.RobotCommand.{RobotCommand}
-use Rattle.performer_kit.specs.declared.commands.RobotCommand.TheVariants as robot
-use Rattle.performer_kit.specs.declared.commands.PenShape.{PenShape}
-use Rattle.performer_kit.specs.declared.commands.PenShape.TheVariants as pen
-use Rattle.type_rules.specs.declared.callee.BuiltIn.{BuiltIn}
-use Rattle.type_rules.specs.declared.callee.BuiltIn.TheVariants as built_in
-use Rattle.type_rules.specs.Callees.{Called, CalledAlgorithm, CalledBuiltIn, CalledRobot, CalledPen}
-use Rattle.type_check.specs.declared.locals.Variable.{Variable}
-
--- ---- names
-
--- the local names with their variables, in the order of the text
-abbrev pub Names : Type 0
-Names = List (List ℕ × Variable)
+use Rattle.kumir_tree.specs.Part.{Formal, Head}
+use Rattle.kumir_tree.specs.Kinds.{same_kind}
+use Rattle.performer_kit.specs.Commands.{is_test, pen_arity}
+use Rattle.kumir_names.specs.BuiltIns.{built_in_arity}
+use Rattle.kumir_names.specs.Callees.{Callee, Called, BuiltInCall, RobotCall, PenCall}
+use Rattle.kumir_names.specs.Variables.{Names, variable, is_table}
+use Rattle.kumir_names.specs.declared.variable.Variable.{Variable}
 
 -- what an expression stands among: what other names stand for, the kind of the algorithm, the local names
 pub record Among : Type 0 where
-  pub find : List ℕ → Option Called
+  pub find : List ℕ → Option (Callee Head)
   pub gives : Option Kind
   pub names : Names
 
--- the variable with this name
-abbrev pub variable : Names → List ℕ → Option Variable
-variable names x = lookup (pointwise nat_eq x) names
-
 -- a name that is neither local nor stands for anything else
-abbrev pub is_known_as : Option Variable → Option Called → Bool
+abbrev pub is_known_as : Option Variable → Option (Callee Head) → Bool
 is_known_as None found = is_some found
 is_known_as (Some v) found = true
 
@@ -45,12 +31,6 @@ abbrev pub is_known : Among → List ℕ → Bool
 is_known s x = is_known_as (variable s.names x) (s.find x)
 
 -- ---- kinds
-
-abbrev pub same_kind : Kind → Kind → Bool
-same_kind Whole Whole = true
-same_kind Whole Truth = false
-same_kind Truth Whole = false
-same_kind Truth Truth = true
 
 -- there is a kind, and it is this one
 abbrev pub is_kind : Kind → Option Kind → Bool
@@ -62,19 +42,19 @@ are_same None b = false
 are_same (Some a) b = is_kind a b
 
 -- a kind, where this holds
-abbrev pub given : Bool → Kind → Option Kind
-given true k = Some k
-given false k = None
+abbrev pub kind_where : Bool → Kind → Option Kind
+kind_where true k = Some k
+kind_where false k = None
 
 abbrev pub of_two : Kind → Option Kind → Option Kind → Kind → Option Kind
-of_two k a b result = given (is_kind k a && is_kind k b) result
+of_two k a b result = kind_where (is_kind k a && is_kind k b) result
 
 -- an operator over operands of these kinds
 abbrev pub binary_kind : Op → Option Kind → Option Kind → Option Kind
 binary_kind op.Or a b = of_two Truth a b Truth
 binary_kind op.And a b = of_two Truth a b Truth
-binary_kind op.Equal a b = given (are_same a b) Truth
-binary_kind op.NotEqual a b = given (are_same a b) Truth
+binary_kind op.Equal a b = kind_where (are_same a b) Truth
+binary_kind op.NotEqual a b = kind_where (are_same a b) Truth
 binary_kind op.Less a b = of_two Whole a b Truth
 binary_kind op.Greater a b = of_two Whole a b Truth
 binary_kind op.LessOrEqual a b = of_two Whole a b Truth
@@ -93,9 +73,6 @@ pub record Argument : Type 0 where
   pub place : Bool
   -- the local table that it is, as a whole
   pub table : Option Variable
-
-abbrev pub is_table : Variable → Bool
-is_table v = nat_lt 0 v.bounds
 
 abbrev pub all_whole : List Argument → Bool
 all_whole [] = true
@@ -130,73 +107,40 @@ arguments_fit (p ∷ ps) (a ∷ more) = argument_fits p a && arguments_fit ps mo
 abbrev pub are_numbers : ℕ → List Argument → Bool
 are_numbers n arguments = nat_eq (length arguments) n && all_whole arguments
 
--- how many numbers a built-in takes
-abbrev pub arity : BuiltIn → ℕ
-arity built_in.Div = 2
-arity built_in.Mod = 2
-arity built_in.Iabs = 1
-arity built_in.Imin = 2
-arity built_in.Imax = 2
-
--- how many numbers a command of the Draughtsman takes
-abbrev pub numbers : PenShape → ℕ
-numbers pen.Raise = 0
-numbers pen.Lower = 0
-numbers pen.To = 2
-numbers pen.By = 2
-
--- whether a command of the Robot is a test
-abbrev pub is_test : RobotCommand → Bool
-is_test robot.Up = false
-is_test robot.Down = false
-is_test robot.Left = false
-is_test robot.Right = false
-is_test robot.Paint = false
-is_test robot.AboveFree = true
-is_test robot.BelowFree = true
-is_test robot.LeftFree = true
-is_test robot.RightFree = true
-is_test robot.AboveWall = true
-is_test robot.BelowWall = true
-is_test robot.LeftWall = true
-is_test robot.RightWall = true
-is_test robot.CellPainted = true
-is_test robot.CellClean = true
-
 abbrev pub where_gives : Bool → Option Kind → Option Kind
 where_gives true k = k
 where_gives false k = None
 
 -- A call in an expression: of an algorithm with a kind, a built-in or a test.
-abbrev pub answer_kind : Option Called → List Argument → Option Kind
+abbrev pub answer_kind : Option (Callee Head) → List Argument → Option Kind
 answer_kind None arguments = None
-answer_kind (Some (CalledAlgorithm h)) arguments = where_gives (arguments_fit h.params arguments) h.gives
-answer_kind (Some (CalledBuiltIn b)) arguments = given (are_numbers (arity b) arguments) Whole
-answer_kind (Some (CalledRobot c)) arguments = given (is_test c && are_numbers 0 arguments) Truth
-answer_kind (Some (CalledPen s)) arguments = None
+answer_kind (Some (Called h)) arguments = where_gives (arguments_fit h.params arguments) h.gives
+answer_kind (Some (BuiltInCall b)) arguments = kind_where (are_numbers (built_in_arity b) arguments) Whole
+answer_kind (Some (RobotCall c)) arguments = kind_where (is_test c && are_numbers 0 arguments) Truth
+answer_kind (Some (PenCall s)) arguments = None
 
 -- A call as a piece of its own: of an algorithm without a kind or a command that is no test.
-abbrev pub command_fits : Option Called → List Argument → Bool
+abbrev pub command_fits : Option (Callee Head) → List Argument → Bool
 command_fits None arguments = false
-command_fits (Some (CalledAlgorithm h)) arguments = not (is_some h.gives) && arguments_fit h.params arguments
-command_fits (Some (CalledBuiltIn b)) arguments = false
-command_fits (Some (CalledRobot c)) arguments = not (is_test c) && are_numbers 0 arguments
-command_fits (Some (CalledPen s)) arguments = are_numbers (numbers s) arguments
+command_fits (Some (Called h)) arguments = not (is_some h.gives) && arguments_fit h.params arguments
+command_fits (Some (BuiltInCall b)) arguments = false
+command_fits (Some (RobotCall c)) arguments = not (is_test c) && are_numbers 0 arguments
+command_fits (Some (PenCall s)) arguments = are_numbers (pen_arity s) arguments
 
 -- ---- names in expressions
 
 -- a name alone: a variable that is no table, or a call without arguments where the name is not local
-abbrev pub name_kind : Option Variable → Option Called → Option Kind
+abbrev pub name_kind : Option Variable → Option (Callee Head) → Option Kind
 name_kind None found = answer_kind found []
-name_kind (Some v) found = given (not (is_table v)) v.kind
+name_kind (Some v) found = kind_where (not (is_table v)) v.kind
 
 -- a name with indexes: an element of a table that has as many bounds
 abbrev pub element_kind : Option Variable → List Argument → Option Kind
 element_kind None indexes = None
-element_kind (Some v) indexes = given (is_table v && are_numbers v.bounds indexes) v.kind
+element_kind (Some v) indexes = kind_where (is_table v && are_numbers v.bounds indexes) v.kind
 
 -- a name with parentheses: a call, where the name is not local
-abbrev pub call_kind : Option Variable → Option Called → List Argument → Option Kind
+abbrev pub call_kind : Option Variable → Option (Callee Head) → List Argument → Option Kind
 call_kind None found arguments = answer_kind found arguments
 call_kind (Some v) found arguments = None
 
@@ -242,10 +186,10 @@ abbrev mutual
   kind_of s (t.Element x es) = element_kind (variable s.names x) (arguments s es)
   kind_of s (t.Call f es) = call_kind (variable s.names f) (s.find f) (arguments s es)
   -- signs before a number
-  kind_of s (t.Plus a) = given (is_kind Whole (kind_of s a)) Whole
-  kind_of s (t.Minus a) = given (is_kind Whole (kind_of s a)) Whole
+  kind_of s (t.Plus a) = kind_where (is_kind Whole (kind_of s a)) Whole
+  kind_of s (t.Minus a) = kind_where (is_kind Whole (kind_of s a)) Whole
   -- `не`
-  kind_of s (t.Not a) = given (is_kind Truth (kind_of s a)) Truth
+  kind_of s (t.Not a) = kind_where (is_kind Truth (kind_of s a)) Truth
   kind_of s (t.Binary o a b) = binary_kind o (kind_of s a) (kind_of s b)
 
   pub arguments : Among → Trees → List Argument

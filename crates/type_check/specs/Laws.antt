@@ -4,13 +4,18 @@ use Rattle.std.specs.List.{AllByRecursion}
 use Rattle.kumir_tree.specs.declared.unit.Fault.{Fault}
 use Rattle.kumir_tree.specs.Unit.{Algorithm}
 use Rattle.margins.specs.declared.margin.Mark.{Mark}
-use Rattle.type_rules.specs.Callees.{Called}
+use Rattle.kumir_tree.specs.Part.{Head}
+use Rattle.kumir_names.specs.Callees.{Callee}
 use Rattle.type_check.specs.Checked.{asked, unit_faults}
 use Rattle.type_check.specs.Margin.{IsMarginOf}
 
 -- where two look-ups answer alike for each name that an algorithm asks for, they give it the same faults
 abbrev pub AsksForAll : Type 0
-AsksForAll = (a : Algorithm) (find other : List ℕ → Option Called) → AllByRecursion (λ x. find x ≡ other x) (asked a) → unit_faults find a ≡ unit_faults other a
+AsksForAll = (a : Algorithm) (find other : List ℕ → Option (Callee Head)) → AllByRecursion (λ x. find x ≡ other x) (asked a) → unit_faults find a ≡ unit_faults other a
+
+-- each list of faults has a margin
+abbrev pub EachHasMargin : Type 0
+EachHasMargin = (faults : List Fault) → (marks : List Mark) × IsMarginOf faults marks
 
 -- two margins of the same faults are equal
 abbrev pub HasOneMargin : Type 0

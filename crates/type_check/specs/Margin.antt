@@ -5,7 +5,8 @@ use Rattle.kumir_tree.specs.Part.{Head}
 use Rattle.kumir_tree.specs.Unit.{Ending, Grown, Prelude, Faulty, Known}
 use Rattle.margins.specs.declared.margin.Mark.{Mark}
 use Rattle.margins.specs.Marks.{IsRising}
-use Rattle.type_rules.specs.Callees.{Called, callee}
+use Rattle.kumir_names.specs.Callees.{Callee}
+use Rattle.type_rules.specs.Callees.{callee}
 use Rattle.type_rules.specs.Counted.{headers_in, header_faults}
 use Rattle.type_check.specs.Checked.{unit_faults}
 
@@ -15,16 +16,16 @@ abbrev pub on_line : ℕ → Fault → Fault
 on_line first f = record { line = first + f.line; code = f.code }
 
 -- the faults of a unit: those of its reading, or else those in its names and types
-abbrev pub own_faults : (List ℕ → Option Called) → Ending → List Fault
+abbrev pub own_faults : (List ℕ → Option (Callee Head)) → Ending → List Fault
 own_faults find (Grown a) = unit_faults find a
 own_faults find Prelude = []
 own_faults find (Faulty faults) = faults
 
 -- and the performers that it does not know
-abbrev pub placed_faults : (List ℕ → Option Called) → ℕ × Known → List Fault
+abbrev pub placed_faults : (List ℕ → Option (Callee Head)) → ℕ × Known → List Fault
 placed_faults find u = map (on_line u.0) (own_faults find u.1.ending) ++ map (on_line u.0) u.1.unknown
 
-abbrev pub all_placed_faults : (List ℕ → Option Called) → List (ℕ × Known) → List Fault
+abbrev pub all_placed_faults : (List ℕ → Option (Callee Head)) → List (ℕ × Known) → List Fault
 all_placed_faults find [] = []
 all_placed_faults find (u ∷ units) = placed_faults find u ++ all_placed_faults find units
 

@@ -1,15 +1,16 @@
 -- The pieces of an algorithm, as far as names and kinds go. docs/LANGUAGE.md, "Names" and "Types".
-use Rattle.std.specs.Prelude.{ℕ, Bool, true, false, ◌&&◌, not, List, [], ◌∷◌, ◌++◌, length, Option, Some, None, is_some, map}
+use Rattle.std.specs.Prelude.{ℕ, Bool, true, false, ◌&&◌, not, List, [], ◌∷◌, ◌++◌, Option, Some, None, is_some}
 use Rattle.kumir_tree.specs.declared.kind.Kind.{Kind}
 use Rattle.kumir_tree.specs.declared.kind.Kind.TheVariants.{Whole, Truth}
 use Rattle.kumir_tree.specs.Tree as t
 use Rattle.kumir_tree.specs.Tree.{Tree, Trees, no_trees, ◌then◌}
-use Rattle.kumir_tree.specs.Part.{Limits, Place, ToAnswer, ToScalar, ToElement, Shown, ShowValue, ShowText, ShowLine, Declares, Scalars, Tables, Formal}
+use Rattle.kumir_tree.specs.Part.{Limits, Place, ToAnswer, ToScalar, ToElement, Shown, ShowValue, ShowText, ShowLine, Declares, Scalars, Tables, Formal, Head}
 use Rattle.kumir_tree.specs.Program.{Stmt, Act, Stands, Declare, Assign, Invoke, Times, While, Count, Forever, Until, Choose, Select, Assert, Input, Output, Leave, Quit, Block, done, ◌next◌, Arms, no_arms, arm}
 use Rattle.kumir_tree.specs.Unit.{Algorithm}
-use Rattle.type_rules.specs.Callees.{Called}
-use Rattle.type_check.specs.declared.locals.Variable.{Variable}
-use Rattle.type_check.specs.Kinds.{Names, Among, variable, is_kind, are_same, given, is_table, element_kind, command_fits, Argument, kind_of, arguments}
+use Rattle.kumir_names.specs.Callees.{Callee}
+use Rattle.kumir_names.specs.declared.variable.Variable.{Variable}
+use Rattle.kumir_names.specs.Variables.{Names, variable, is_table, parameters, declares}
+use Rattle.type_check.specs.Kinds.{Among, is_kind, are_same, kind_where, element_kind, command_fits, Argument, kind_of, arguments}
 
 pub data Part : Type 0 where
   -- a header with its parameters
@@ -143,25 +144,8 @@ used_by (Printing xs) = all_shown_names xs
 
 -- ---- the names that a piece declares, with their variables
 
-abbrev pub dimensions : Option Limits → ℕ
-dimensions None = 0
-dimensions (Some bounds) = length bounds
-
-abbrev pub parameter : Formal → List ℕ × Variable
-parameter p = (p.name, record { kind = p.kind; bounds = dimensions p.bounds })
-
-abbrev pub scalar : Kind → List ℕ → List ℕ × Variable
-scalar k x = (x, record { kind = k; bounds = 0 })
-
-abbrev pub table : Kind → List ℕ × Limits → List ℕ × Variable
-table k t = (t.0, record { kind = k; bounds = length t.1 })
-
-abbrev pub declares : Declares → Names
-declares (Scalars k xs) = map (scalar k) xs
-declares (Tables k ts) = map (table k) ts
-
 abbrev pub declared_by : Part → Names
-declared_by (Parameters ps) = map parameter ps
+declared_by (Parameters ps) = parameters ps
 declared_by (Condition e) = []
 declared_by (Repeating e) = []
 declared_by (Counting x from to step) = []
@@ -196,7 +180,7 @@ declares_fit s (Tables k ts) = tables_fit s ts
 
 abbrev pub scalar_kind : Option Variable → Option Kind
 scalar_kind None = None
-scalar_kind (Some v) = given (not (is_table v)) v.kind
+scalar_kind (Some v) = kind_where (not (is_table v)) v.kind
 
 -- the kind of what a value can be given to: `знач` in an algorithm with a kind, a variable, an element
 abbrev pub place_kind : Among → Place → Option Kind
@@ -222,7 +206,7 @@ some_whole s None = true
 some_whole s (Some e) = is_kind Whole (kind_of s e)
 
 -- a call as a piece of its own, where the name is not local
-abbrev pub call_fits : Option Variable → Option Called → List Argument → Bool
+abbrev pub call_fits : Option Variable → Option (Callee Head) → List Argument → Bool
 call_fits None found arguments = command_fits found arguments
 call_fits (Some v) found arguments = false
 

@@ -4,7 +4,8 @@ use Rattle.kumir_tree.specs.Tree.{Tree, Trees}
 use Rattle.type_rules.specs.Callees.{callee}
 use Rattle.type_rules.specs.Headers.{callees_of}
 use Rattle.type_check.specs.declared.kinds.Scope.{Scope}
-use Rattle.type_check.specs.Kinds.{Among, Argument, variable, kind_of, is_place, whole_table, arguments}
+use Rattle.kumir_names.specs.Variables.{variable}
+use Rattle.type_check.specs.Kinds.{Among, Argument, kind_of, is_place, whole_table, arguments}
 use Rattle.type_check.specs.Parts.{call_fits}
 
 abbrev pub among : Scope → Among

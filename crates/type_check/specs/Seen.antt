@@ -3,7 +3,9 @@ use Rattle.std.specs.Prelude.{ℕ, List, [], ◌++◌, fold, Option}
 use Rattle.kumir_tree.specs.declared.kind.Kind.{Kind}
 use Rattle.kumir_tree.specs.Seen.{tree, trees, some_tree}
 use Rattle.kumir_tree.specs.Parts.{declares_of, place_of, places_of, all_shown}
-use Rattle.type_rules.specs.Callees.{Called, callee}
+use Rattle.kumir_tree.specs.Part.{Head}
+use Rattle.kumir_names.specs.Callees.{Callee}
+use Rattle.type_rules.specs.Callees.{callee}
 use Rattle.type_rules.specs.Headers.{callees_of}
 use Rattle.type_rules.specs.Counted.{fault_on}
 use Rattle.type_check.specs.declared.parts.Part as rust
@@ -24,7 +26,7 @@ part_of (r.Reading ps) = Reading (places_of ps.now)
 part_of (r.Printing xs) = Printing (all_shown xs.now)
 
 -- what was found, with one more piece
-unfoldable pub with_piece : (List ℕ → Option Called) → Option Kind → Found → ℕ × Part → Found
+unfoldable pub with_piece : (List ℕ → Option (Callee Head)) → Option Kind → Found → ℕ × Part → Found
 with_piece find gives f p = record {
   locals = behind f.locals p.1;
   asked = fold noted f.asked (not_local (at_piece f.locals p.1) (used_by p.1));

@@ -3,13 +3,15 @@
 ghost use Rattle.std.specs.Prelude.{◌≡◌, ◌+◌, ◌++◌, ◌∷◌, [], map, fold, IfOk, OnOk};
 ghost use Rattle.std.specs.List.{list_all};
 ghost use Rattle.kumir_tree.specs.Parts.{formal_of, table_of, declares_of};
+ghost use Rattle.kumir_tree.specs.Seen.{tree};
 ghost use Rattle.kumir_tree.specs.Units.{algorithm_of, some_claim};
 ghost use Rattle.kumir_tree.specs.Blocks.{block_of, arms_of, act_of};
 ghost use Rattle.type_rules.specs.Callees.{callee};
 ghost use Rattle.type_rules.specs.Headers.{callees_of};
 ghost use Rattle.type_rules.specs.Counted.{fault_on};
 ghost use Rattle.type_check.specs.Kinds.{is_known};
-ghost use Rattle.type_check.specs.Parts.{Parameters, scalar, table, parameter, declares, declared_by, act_pieces, block_pieces, arms_pieces, claim_pieces, pieces};
+ghost use Rattle.kumir_names.specs.Variables.{scalar, table, parameter, declares};
+ghost use Rattle.type_check.specs.Parts.{Parameters, Condition, declared_by, act_pieces, block_pieces, arms_pieces, claim_pieces, pieces};
 ghost use Rattle.type_check.specs.Checked.{with_locals, declared_again, noted, not_local, fault_code, unit_faults, asked};
 ghost use Rattle.type_check.specs.Scopes.{among};
 ghost use Rattle.type_check.specs.Seen.{part_of, checking, nothing_found};
@@ -18,13 +20,15 @@ use crate::asked::Asked;
 use crate::fits::{params_fit, part_fits};
 use crate::found::{Found, Rules};
 use crate::kinds::Scope;
-use crate::locals::{Locals, Variable};
+use crate::locals::Locals;
 use crate::parts::Part;
 use crate::uses::{names_of_params, names_of_part};
 use km_base::{Ledger, Memory, Steps};
+use kumir_names::Variable;
+use kumir_tree::fault_codes::{DECLARED_TWICE, TYPES_DO_NOT_FIT, UNKNOWN_NAME};
 use kumir_tree::{
-    Case, Check, Declared, Fault, Faults, Header, Kind, Name, Names, Param, Statement, TableName,
-    UnitTree, What,
+    Case, Check, Declared, Expr, Fault, Faults, Header, Kind, Name, Names, Param, Statement,
+    TableName, UnitTree, What,
 };
 use sqlite_items::Items;
 use std::alloc::Global;
@@ -170,11 +174,11 @@ fn code_of(again: bool, known: bool, right: bool) -> Option<u16>
     ensures { result ≡ fault_code again known right }
 {
     if again {
-        Some(401)
+        Some(DECLARED_TWICE)
     } else if !known {
-        Some(402)
+        Some(UNKNOWN_NAME)
     } else if !right {
-        Some(403)
+        Some(TYPES_DO_NOT_FIT)
     } else {
         None
     }
@@ -277,8 +281,41 @@ fn check_cases(
     Ok(())
 }
 
+/// Checks a piece and then the block behind it.
 #[cycle(walk)]
-#[tactic(auto, using(kumir_tree::proofs::Views::acts, crate::proofs::Checking::two_folds, crate::proofs::Checking::one_last))]
+fn check_guarded(
+    alloc: Global,
+    rules: &Rules<'_>,
+    found: &mut Found,
+    line: u32,
+    part: Part<'_>,
+    body: &[Statement],
+) -> Result<(), Memory>
+    ensures { OnOk result (found.new ≡ fold (checking rules.now) found.old ((line, part_of part.entry) ∷ block_pieces (block_of body.now))) }
+{
+    check_part(alloc, rules, found, line, part)?;
+    check_block(alloc, rules, found, body)
+}
+
+/// Checks a block and then the condition that ends it.
+#[cycle(walk)]
+#[tactic(auto, using(crate::proofs::Checking::one_last))]
+fn check_until(
+    alloc: Global,
+    rules: &Rules<'_>,
+    found: &mut Found,
+    body: &[Statement],
+    close: u32,
+    e: &Expr,
+) -> Result<(), Memory>
+    ensures { OnOk result (found.new ≡ fold (checking rules.now) found.old (block_pieces (block_of body.now) ++ ((close, Condition (tree e.now)) ∷ []))) }
+{
+    check_block(alloc, rules, found, body)?;
+    check_part(alloc, rules, found, close, Part::Condition(e))
+}
+
+#[cycle(walk)]
+#[tactic(auto, using(kumir_tree::proofs::Views::acts, crate::proofs::Checking::two_folds))]
 fn check_what(
     alloc: Global,
     rules: &Rules<'_>,
@@ -290,61 +327,50 @@ fn check_what(
 {
     match what {
         What::Declare(declared) => {
-            check_part(alloc, rules, found, line, Part::Declaring(declared))?;
+            check_part(alloc, rules, found, line, Part::Declaring(declared))
         }
         What::Assign(target, e) => {
-            check_part(alloc, rules, found, line, Part::Assigning(target, e))?;
+            check_part(alloc, rules, found, line, Part::Assigning(target, e))
         }
         What::Call(f, arguments) => {
-            check_part(
-                alloc,
-                rules,
-                found,
-                line,
-                Part::Calling(f, arguments.as_slice()),
-            )?;
+            let call = Part::Calling(f, arguments.as_slice());
+            check_part(alloc, rules, found, line, call)
         }
         What::Times(e, body) => {
-            check_part(alloc, rules, found, line, Part::Repeating(e))?;
-            check_block(alloc, rules, found, body.as_slice())?;
+            let times = Part::Repeating(e);
+            check_guarded(alloc, rules, found, line, times, body.as_slice())
         }
         What::While(e, body) => {
-            check_part(alloc, rules, found, line, Part::Condition(e))?;
-            check_block(alloc, rules, found, body.as_slice())?;
+            let test = Part::Condition(e);
+            check_guarded(alloc, rules, found, line, test, body.as_slice())
         }
         What::Count(x, from, to, step, body) => {
-            check_part(alloc, rules, found, line, Part::Counting(x, from, to, step))?;
-            check_block(alloc, rules, found, body.as_slice())?;
+            let count = Part::Counting(x, from, to, step);
+            check_guarded(alloc, rules, found, line, count, body.as_slice())
         }
-        What::Forever(body) => {
-            check_block(alloc, rules, found, body.as_slice())?;
-        }
+        What::Forever(body) => check_block(alloc, rules, found, body.as_slice()),
         What::Until(body, close, e) => {
-            check_block(alloc, rules, found, body.as_slice())?;
-            check_part(alloc, rules, found, *close, Part::Condition(e))?;
+            check_until(alloc, rules, found, body.as_slice(), *close, e)
         }
         What::Choose(e, first, other) => {
-            check_part(alloc, rules, found, line, Part::Condition(e))?;
-            check_block(alloc, rules, found, first.as_slice())?;
-            check_block(alloc, rules, found, other.as_slice())?;
+            let test = Part::Condition(e);
+            check_guarded(alloc, rules, found, line, test, first.as_slice())?;
+            check_block(alloc, rules, found, other.as_slice())
         }
         What::Select(cases, other) => {
             check_cases(alloc, rules, found, cases.as_slice())?;
-            check_block(alloc, rules, found, other.as_slice())?;
+            check_block(alloc, rules, found, other.as_slice())
         }
-        What::Assert(e) => {
-            check_part(alloc, rules, found, line, Part::Condition(e))?;
-        }
+        What::Assert(e) => check_part(alloc, rules, found, line, Part::Condition(e)),
         What::Input(targets) => {
-            check_part(alloc, rules, found, line, Part::Reading(targets.as_slice()))?;
+            check_part(alloc, rules, found, line, Part::Reading(targets.as_slice()))
         }
         What::Output(items) => {
-            check_part(alloc, rules, found, line, Part::Printing(items.as_slice()))?;
+            check_part(alloc, rules, found, line, Part::Printing(items.as_slice()))
         }
-        What::Leave => {}
-        What::Quit => {}
+        What::Leave => Ok(()),
+        What::Quit => Ok(()),
     }
-    Ok(())
 }
 
 fn check_claim(

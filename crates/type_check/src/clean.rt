@@ -1,7 +1,7 @@
 //! Programs without a fault.
 
 ghost use Rattle.std.specs.Prelude.{◌≡◌, ◌≢◌, ◌++◌, [], IfOk, IfErr, OnOk};
-ghost use Rattle.kumir_tree.specs.Units.{units_of, placed_of};
+ghost use Rattle.kumir_tree.specs.Units.{units_of};
 ghost use Rattle.kumir_tree.specs.Sound.{IsSound};
 ghost use Rattle.type_rules.specs.Headers.{callees_of, some_head_behind};
 ghost use Rattle.type_rules.specs.Counted.{headers_in};
@@ -9,6 +9,7 @@ ghost use Rattle.type_check.specs.Margin.{program_faults, first_head};
 ghost use Rattle.type_check.specs.Placed.{units_in};
 ghost use Rattle.type_check.specs.Refused.{IsRefusalOf};
 
+use crate::first::first_header;
 use crate::margin::{faults_of, mark_faults};
 use crate::refusal::CleanRefusal;
 use km_base::{Ledger, Memory, Steps};
@@ -81,17 +82,8 @@ fn refusal_of(alloc: Global, faults: &[Fault]) -> CleanRefusal
     }
 }
 
-fn header_of(unit: &PlacedUnit) -> Option<&Header>
-    ensures { some_head_behind result ≡ (placed_of unit.now).1.head }
-{
-    match &unit.read.header {
-        Some(header) => Some(header),
-        None => None,
-    }
-}
-
 /// The program, where its margin has no mark; else its margin. The units are shared, not copied.
-#[tactic(auto, using(crate::proofs::First::units_seen))]
+#[tactic(auto, using(crate::proofs::FirstUnit::units_seen))]
 pub fn clean_of(alloc: Global, units: &Units) -> Result<Clean, CleanRefusal>
     requires { IsSound (units_of units.now) }
     ensures same { IfOk result (λ clean. units_in clean ≡ units_of units.now) }
@@ -99,20 +91,15 @@ pub fn clean_of(alloc: Global, units: &Units) -> Result<Clean, CleanRefusal>
     ensures refused { IfErr result (λ refusal. IsRefusalOf (program_faults (units_of units.now)) refusal) }
 {
     let mut steps = Steps::<Uncounted>::new();
-    let HeadersRead { headers, faults } = match faults_of(alloc, units, &mut steps) {
-        Ok(read) => read,
-        Err(_) => return Err(CleanRefusal::Memory),
-    };
+    let HeadersRead { headers, faults } = faults_of(alloc, units, &mut steps)?;
     if !faults.is_empty() {
         return Err(refusal_of(alloc, faults.as_slice()));
     }
-    match share_units(alloc, units.as_slice()) {
-        Ok(units) => Ok(Clean { units, headers }),
-        Err(_) => Err(CleanRefusal::Memory),
-    }
+    let units = share_units(alloc, units.as_slice())?;
+    Ok(Clean { units, headers })
 }
 
-#[tactic(auto, using(crate::proofs::First::units_seen))]
+#[tactic(auto, using(crate::proofs::FirstUnit::units_seen))]
 impl Clean {
     /// The prelude and the units of the program.
     pub fn units(&self) -> &Units
@@ -131,13 +118,10 @@ impl Clean {
     }
 
     /// The header of the first algorithm. None comes exactly where there is no algorithm.
-    #[tactic(auto, using(crate::proofs::First::main_found, crate::proofs::First::no_main))]
+    #[tactic(auto, using(crate::proofs::FirstUnit::first_seen))]
     pub fn main(&self) -> Option<&Header>
         ensures { some_head_behind result ≡ first_head (units_in self.now) }
     {
-        match self.units.get(1) {
-            Some(unit) => header_of(unit),
-            None => None,
-        }
+        first_header(&self.units)
     }
 }

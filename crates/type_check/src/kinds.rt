@@ -6,14 +6,15 @@ ghost use Rattle.kumir_tree.specs.Seen.{tree, trees};
 ghost use Rattle.kumir_tree.specs.Parts.{formal_of};
 ghost use Rattle.kumir_tree.specs.Seen.{some_tree};
 ghost use Rattle.type_rules.specs.Headers.{some_called};
+ghost use Rattle.kumir_names.specs.Variables.{variable, is_table};
 ghost use Rattle.type_check.specs.Kinds as k;
 ghost use Rattle.type_check.specs.Scopes.{among, argument, call_fits_at};
 ghost use Rattle.type_check.specs.Parts.{scalar_kind};
 
-use crate::locals::{Locals, Variable};
+use crate::locals::Locals;
+use kumir_names::Variable;
 use kumir_tree::{Expr, Kind, Mode, Name, Op, Param};
-use performer_kit::{PenShape, RobotCommand};
-use type_rules::{BuiltIn, Callee, Headers};
+use type_rules::{Callee, Headers};
 
 /// What an expression stands among.
 #[derive(Clone, Copy)]
@@ -24,21 +25,12 @@ pub struct Scope<'a> {
     pub locals: &'a Locals,
 }
 
-fn same_kind(a: Kind, b: Kind) -> bool
-    ensures { result ≡ k.same_kind a b }
-{
-    match a {
-        Kind::Whole => matches!(b, Kind::Whole),
-        Kind::Truth => matches!(b, Kind::Truth),
-    }
-}
-
 /// Whether there is a kind and it is this one.
 pub fn is_kind(kind: Kind, found: Option<Kind>) -> bool
     ensures { result ≡ k.is_kind kind found }
 {
     match found {
-        Some(found) => same_kind(kind, found),
+        Some(found) => kind.is(found),
         None => false,
     }
 }
@@ -54,8 +46,8 @@ pub fn are_same(a: Option<Kind>, b: Option<Kind>) -> bool
 }
 
 /// The kind, where this holds.
-fn given(holds: bool, kind: Kind) -> Option<Kind>
-    ensures { result ≡ k.given holds kind }
+fn kind_where(holds: bool, kind: Kind) -> Option<Kind>
+    ensures { result ≡ k.kind_where holds kind }
 {
     if holds { Some(kind) } else { None }
 }
@@ -64,7 +56,7 @@ fn of_two(kind: Kind, a: Option<Kind>, b: Option<Kind>, result_kind: Kind) -> Op
     ensures { result ≡ k.of_two kind a b result_kind }
 {
     let right = is_kind(kind, b);
-    given(is_kind(kind, a) && right, result_kind)
+    kind_where(is_kind(kind, a) && right, result_kind)
 }
 
 fn where_gives(holds: bool, kind: Option<Kind>) -> Option<Kind>
@@ -80,8 +72,8 @@ fn binary_kind(op: Op, a: Option<Kind>, b: Option<Kind>) -> Option<Kind>
     match op {
         Op::Or => of_two(Kind::Truth, a, b, Kind::Truth),
         Op::And => of_two(Kind::Truth, a, b, Kind::Truth),
-        Op::Equal => given(are_same(a, b), Kind::Truth),
-        Op::NotEqual => given(are_same(a, b), Kind::Truth),
+        Op::Equal => kind_where(are_same(a, b), Kind::Truth),
+        Op::NotEqual => kind_where(are_same(a, b), Kind::Truth),
         Op::Less => of_two(Kind::Whole, a, b, Kind::Truth),
         Op::Greater => of_two(Kind::Whole, a, b, Kind::Truth),
         Op::LessOrEqual => of_two(Kind::Whole, a, b, Kind::Truth),
@@ -94,7 +86,7 @@ fn binary_kind(op: Op, a: Option<Kind>, b: Option<Kind>) -> Option<Kind>
 }
 
 fn is_table(variable: Variable) -> bool
-    ensures { result ≡ k.is_table variable }
+    ensures { result ≡ is_table variable }
 {
     0 < variable.bounds
 }
@@ -104,53 +96,8 @@ pub fn scalar_kind_of(variable: Option<Variable>) -> Option<Kind>
     ensures { result ≡ scalar_kind variable }
 {
     match variable {
-        Some(variable) => given(!is_table(variable), variable.kind),
+        Some(variable) => kind_where(!is_table(variable), variable.kind),
         None => None,
-    }
-}
-
-fn arity(built_in: BuiltIn) -> usize
-    ensures { result ≡ k.arity built_in }
-{
-    match built_in {
-        BuiltIn::Div => 2,
-        BuiltIn::Mod => 2,
-        BuiltIn::Iabs => 1,
-        BuiltIn::Imin => 2,
-        BuiltIn::Imax => 2,
-    }
-}
-
-fn numbers(shape: PenShape) -> usize
-    ensures { result ≡ k.numbers shape }
-{
-    match shape {
-        PenShape::Raise => 0,
-        PenShape::Lower => 0,
-        PenShape::To => 2,
-        PenShape::By => 2,
-    }
-}
-
-fn is_test(command: RobotCommand) -> bool
-    ensures { result ≡ k.is_test command }
-{
-    match command {
-        RobotCommand::Up => false,
-        RobotCommand::Down => false,
-        RobotCommand::Left => false,
-        RobotCommand::Right => false,
-        RobotCommand::Paint => false,
-        RobotCommand::AboveFree => true,
-        RobotCommand::BelowFree => true,
-        RobotCommand::LeftFree => true,
-        RobotCommand::RightFree => true,
-        RobotCommand::AboveWall => true,
-        RobotCommand::BelowWall => true,
-        RobotCommand::LeftWall => true,
-        RobotCommand::RightWall => true,
-        RobotCommand::CellPainted => true,
-        RobotCommand::CellClean => true,
     }
 }
 
@@ -208,7 +155,7 @@ fn table_fits(kind: Kind, bounds: usize, found: Option<Variable>) -> bool
     ensures { result ≡ k.table_fits kind bounds found }
 {
     match found {
-        Some(found) => same_kind(kind, found.kind) && found.bounds == bounds,
+        Some(found) => kind.is(found.kind) && found.bounds == bounds,
         None => false,
     }
 }
@@ -236,9 +183,9 @@ pub fn kind_of(scope: &Scope<'_>, e: &Expr) -> Option<Kind>
         Expr::Named(x) => name_kind(scope, x),
         Expr::Element(x, indexes) => element_kind(scope, x, indexes.as_slice()),
         Expr::Call(f, arguments) => call_kind(scope, f, arguments.as_slice()),
-        Expr::Plus(a) => given(is_kind(Kind::Whole, kind_of(scope, a.get())), Kind::Whole),
-        Expr::Minus(a) => given(is_kind(Kind::Whole, kind_of(scope, a.get())), Kind::Whole),
-        Expr::Not(a) => given(is_kind(Kind::Truth, kind_of(scope, a.get())), Kind::Truth),
+        Expr::Plus(a) => kind_where(is_kind(Kind::Whole, kind_of(scope, a.get())), Kind::Whole),
+        Expr::Minus(a) => kind_where(is_kind(Kind::Whole, kind_of(scope, a.get())), Kind::Whole),
+        Expr::Not(a) => kind_where(is_kind(Kind::Truth, kind_of(scope, a.get())), Kind::Truth),
         Expr::Binary(op, a, b) => {
             let left = kind_of(scope, a.get());
             binary_kind(*op, left, kind_of(scope, b.get()))
@@ -261,8 +208,8 @@ fn bare_kind(found: Option<Callee<'_>>) -> Option<Kind>
         Some(Callee::Algorithm(header)) => {
             where_gives(takes_none(header.params.as_slice()), header.gives)
         },
-        Some(Callee::BuiltIn(built_in)) => given(arity(built_in) == 0, Kind::Whole),
-        Some(Callee::Robot(command)) => given(is_test(command), Kind::Truth),
+        Some(Callee::BuiltIn(built_in)) => kind_where(built_in.arity() == 0, Kind::Whole),
+        Some(Callee::Robot(command)) => kind_where(command.is_test(), Kind::Truth),
         Some(Callee::Pen(_)) => None,
         None => None,
     }
@@ -273,7 +220,7 @@ fn name_kind(scope: &Scope<'_>, x: &Name) -> Option<Kind>
     ensures { result ≡ k.kind_of (among scope.now) (t.Named x.now) }
 {
     match scope.locals.get(x) {
-        Some(variable) => given(!is_table(variable), variable.kind),
+        Some(variable) => kind_where(!is_table(variable), variable.kind),
         None => bare_kind(scope.headers.find(x)),
     }
 }
@@ -281,12 +228,12 @@ fn name_kind(scope: &Scope<'_>, x: &Name) -> Option<Kind>
 /// An element of a table that has as many bounds.
 #[cycle(kinds)]
 pub fn element_kind(scope: &Scope<'_>, x: &Name, indexes: &[Expr]) -> Option<Kind>
-    ensures { result ≡ k.element_kind (k.variable (among scope.now).names x.now) (k.arguments (among scope.now) (trees indexes.now)) }
+    ensures { result ≡ k.element_kind (variable (among scope.now).names x.now) (k.arguments (among scope.now) (trees indexes.now)) }
 {
     match scope.locals.get(x) {
         Some(variable) => {
             let right = are_numbers(scope, variable.bounds, indexes);
-            given(is_table(variable) && right, variable.kind)
+            kind_where(is_table(variable) && right, variable.kind)
         }
         None => None,
     }
@@ -295,7 +242,7 @@ pub fn element_kind(scope: &Scope<'_>, x: &Name, indexes: &[Expr]) -> Option<Kin
 /// A call, where the name is not local.
 #[cycle(kinds)]
 fn call_kind(scope: &Scope<'_>, f: &Name, arguments: &[Expr]) -> Option<Kind>
-    ensures { result ≡ k.call_kind (k.variable (among scope.now).names f.now) ((among scope.now).find f.now) (k.arguments (among scope.now) (trees arguments.now)) }
+    ensures { result ≡ k.call_kind (variable (among scope.now).names f.now) ((among scope.now).find f.now) (k.arguments (among scope.now) (trees arguments.now)) }
 {
     match scope.locals.get(f) {
         Some(_) => None,
@@ -313,11 +260,11 @@ fn answer_kind(scope: &Scope<'_>, found: Option<Callee<'_>>, arguments: &[Expr])
             where_gives(fit, header.gives)
         }
         Some(Callee::BuiltIn(built_in)) => {
-            given(are_numbers(scope, arity(built_in), arguments), Kind::Whole)
+            kind_where(are_numbers(scope, built_in.arity(), arguments), Kind::Whole)
         }
         Some(Callee::Robot(command)) => {
             let none = are_numbers(scope, 0, arguments);
-            given(is_test(command) && none, Kind::Truth)
+            kind_where(command.is_test() && none, Kind::Truth)
         }
         Some(Callee::Pen(_)) => None,
         None => None,
@@ -400,9 +347,9 @@ fn command_fits(scope: &Scope<'_>, found: Option<Callee<'_>>, arguments: &[Expr]
         Some(Callee::BuiltIn(_)) => false,
         Some(Callee::Robot(command)) => {
             let none = are_numbers(scope, 0, arguments);
-            !is_test(command) && none
+            !command.is_test() && none
         }
-        Some(Callee::Pen(shape)) => are_numbers(scope, numbers(shape), arguments),
+        Some(Callee::Pen(shape)) => are_numbers(scope, shape.arity(), arguments),
         None => false,
     }
 }

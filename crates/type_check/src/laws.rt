@@ -1,13 +1,14 @@
 //! Laws of the definitions, which no code needs to run.
 
-ghost use Rattle.type_check.specs.Laws.{AsksForAll, HasOneMargin};
+ghost use Rattle.type_check.specs.Laws.{AsksForAll, EachHasMargin, HasOneMargin};
 
 /// The faults of an algorithm depend on no other look-ups than those of the names that it asks for.
 pub fn faults_depend_on_asked_names()
     ensures { AsksForAll }
 {}
 
-/// A list of faults has at most one margin.
+/// A list of faults has exactly one margin.
 pub fn one_margin()
-    ensures { HasOneMargin }
+    ensures some { EachHasMargin }
+    ensures only { HasOneMargin }
 {}

@@ -4,6 +4,7 @@
 mod asked;
 mod check;
 mod clean;
+mod first;
 mod fits;
 mod found;
 mod kinds;
@@ -16,6 +17,7 @@ mod uses;
 
 pub use check::{UnitFaults, check_unit};
 pub use clean::{Clean, clean_of};
+pub use first::first_header;
 pub use laws::{faults_depend_on_asked_names, one_margin};
 pub use margin::margin_of;
 pub use refusal::CleanRefusal;

@@ -1,21 +1,15 @@
 //! The local names of an algorithm.
 
 ghost use Rattle.std.specs.Prelude.{◌≡◌, [], IfOk, OnOk};
-ghost use Rattle.type_check.specs.Kinds.{variable};
+ghost use Rattle.kumir_names.specs.Variables.{variable};
 ghost use Rattle.type_check.specs.Checked.{is_local, with_local};
 
 use indexmap::IndexMap;
 use km_base::Memory;
-use kumir_tree::{Kind, Name};
+use kumir_names::Variable;
+use kumir_tree::Name;
 use std::alloc::Global;
 use std::marker::Model;
-
-/// A variable: its kind and the number of its bounds, 0 where it is no table.
-#[derive(Clone, Copy, Debug, PartialEq, Eq)]
-pub struct Variable {
-    pub kind: Kind,
-    pub bounds: usize,
-}
 
 /// The local names with their variables, in the order of their declarations.
 #[derive(Drop)]
@@ -24,7 +18,7 @@ pub struct Locals {
 }
 
 impl Model for Locals {
-    ghost use Rattle.type_check.specs.Kinds.{Names};
+    ghost use Rattle.kumir_names.specs.Variables.{Names};
 
     ghost Value = { Names };
 

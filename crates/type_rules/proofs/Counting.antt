@@ -6,9 +6,12 @@ use Rattle.kumir_tree.specs.Parts.{head_of}
 use Rattle.kumir_tree.specs.Sound.{IsSound, IsPlaced, IsUnitRead}
 use Rattle.kumir_tree.specs.Unit.{Known}
 use Rattle.kumir_tree.specs.Units.{placed_of, units_of}
+use Rattle.kumir_tree.specs.declared.fault_codes.TheConstants.{NAME_TAKEN, WITHOUT_NAME}
 use Rattle.kumir_tree.specs.declared.unit.PlacedUnit.{PlacedUnit}
 use Rattle.kumir_tree.specs.declared.header.Header.{Header}
-use Rattle.type_rules.specs.Callees.{Callees, callee, Called}
+use Rattle.kumir_tree.specs.Part.{Head}
+use Rattle.kumir_names.specs.Callees.{Callee}
+use Rattle.type_rules.specs.Callees.{Callees, callee}
 use Rattle.type_rules.specs.Headers.{HeaderList, callees_of, with_header, IsNameless, IsTaken, IsTakenName}
 use Rattle.type_rules.specs.Counted.{head_fault, name_fault, nameless_fault, with_head}
 
@@ -24,11 +27,11 @@ sound_placed (u ∷ units) sound = (sound.1, all_placed units sound.2)
 pub counts : (l : HeaderList) (h : Header) → callees_of (with_header l h) ≡ with_head (callees_of l) (head_of h)
 counts l h = λ i. record { performers = l.performers; heads = map-append head_of l.headers (h ∷ []) i }
 
-nothing_found : (found : Option Called) → (IsSome found → ⊥) → cond {A = Option ℕ} (is_some found) (Some 404) None ≡ None
+nothing_found : (found : Option (Callee Head)) → (IsSome found → ⊥) → cond {A = Option ℕ} (is_some found) (Some NAME_TAKEN) None ≡ None
 nothing_found None none = refl
 nothing_found (Some c) none = absurd (none refl)
 
-something_found : (found : Option Called) → IsSome found → cond {A = Option ℕ} (is_some found) (Some 404) None ≡ Some 404
+something_found : (found : Option (Callee Head)) → IsSome found → cond {A = Option ℕ} (is_some found) (Some NAME_TAKEN) None ≡ Some NAME_TAKEN
 something_found None some = cc
 something_found (Some c) some = refl
 
@@ -36,7 +39,7 @@ first_of_all : (headers : List Header) → (headers ≢ [] → ⊥) → nameless
 first_of_all [] none = refl
 first_of_all (h ∷ headers) none = absurd (none (λ e. cc))
 
-one_before : (headers : List Header) → headers ≢ [] → nameless_fault (map head_of headers) ≡ Some 405
+one_before : (headers : List Header) → headers ≢ [] → nameless_fault (map head_of headers) ≡ Some WITHOUT_NAME
 one_before [] some = absurd (some refl)
 one_before (h ∷ headers) some = refl
 
@@ -44,17 +47,17 @@ no_fault_of : (l : HeaderList) (own : Option (List ℕ)) → ((own ≡ None) × 
 no_fault_of l None nameless taken = first_of_all l.headers (λ some. nameless (refl, some))
 no_fault_of l (Some name) nameless taken = nothing_found (callee (callees_of l) name) taken
 
-taken_of : (c : Callees) (own : Option (List ℕ)) → IsTakenName c own → name_fault c own ≡ Some 404
+taken_of : (c : Callees) (own : Option (List ℕ)) → IsTakenName c own → name_fault c own ≡ Some NAME_TAKEN
 taken_of c None taken = absurd taken
 taken_of c (Some name) taken = something_found (callee c name) taken
 
 pub gets_no_fault : (l : HeaderList) (h : Header) → (IsNameless l h → ⊥) → (IsTaken l h → ⊥) → head_fault (callees_of l) (head_of h) ≡ None
 gets_no_fault l h nameless taken = no_fault_of l h.name nameless taken
 
-pub gets_taken : (l : HeaderList) (h : Header) → IsTaken l h → head_fault (callees_of l) (head_of h) ≡ Some 404
+pub gets_taken : (l : HeaderList) (h : Header) → IsTaken l h → head_fault (callees_of l) (head_of h) ≡ Some NAME_TAKEN
 gets_taken l h taken = taken_of (callees_of l) h.name taken
 
-pub gets_nameless : (l : HeaderList) (h : Header) → IsNameless l h → head_fault (callees_of l) (head_of h) ≡ Some 405
+pub gets_nameless : (l : HeaderList) (h : Header) → IsNameless l h → head_fault (callees_of l) (head_of h) ≡ Some WITHOUT_NAME
 gets_nameless l h nameless = ap (name_fault (callees_of l)) nameless.0 ∙ one_before l.headers nameless.1
 
 -- one more unit

@@ -1,5 +1,5 @@
 -- The map of headers by name and the list of heads answer alike.
-use Rattle.std.proofs.Common.{◌≡◌, ℕ, nat_eq, true, false, cond, List, [], ◌∷◌, ◌++◌, Option, Some, None, map, is_some, refl, sym, ap, subst, ◌∙◌}
+use Rattle.std.proofs.Common.{◌≡◌, ℕ, nat_eq, true, false, cond, List, [], ◌∷◌, ◌++◌, Option, Some, None, map, option_map, is_some, refl, sym, ap, subst, ◌∙◌}
 use Rattle.std.specs.Borrow.{Bor}
 use Rattle.std.specs.List.{AllByRecursion}
 use Rattle.std.specs.Map.{lookup}
@@ -10,10 +10,11 @@ use Rattle.kumir_tree.specs.Part.{Head}
 use Rattle.kumir_tree.specs.Parts.{head_of, some_head}
 use Rattle.kumir_tree.specs.declared.header.Header.{Header}
 use Rattle.type_rules.specs.declared.callee.Callee.{Callee}
-use Rattle.type_rules.specs.Callees.{is_named, head_named, callee, Callees, or_built_in, or_robot, or_pen, or_algorithm, known_robot, known_pen, built_in_named}
-use Rattle.performer_kit.specs.declared.commands.RobotCommand.{RobotCommand}
-use Rattle.performer_kit.specs.declared.commands.PenShape.{PenShape}
-use Rattle.type_rules.specs.declared.callee.BuiltIn.{BuiltIn}
+use Rattle.performer_kit.specs.Commands.{robot_command_named, pen_shape_named}
+use Rattle.kumir_names.specs.BuiltIns.{built_in_named}
+use Rattle.kumir_names.specs.Callees as names
+use Rattle.kumir_names.specs.Callees.{is_named, or_else, if_known}
+use Rattle.type_rules.specs.Callees.{head_named, callee, Callees}
 use Rattle.type_rules.specs.Headers.{first_headers, values_in, some_head_behind, some_called}
 
 -- each header stands under its name
@@ -86,26 +87,23 @@ module _ (first : Option Header) (es fs : List (List ℕ × Header)) (name : Lis
   pub one_header_more : first_headers first ++ values_in fs ≡ (first_headers first ++ values_in es) ++ h ∷ []
   one_header_more = ap (λ l. first_headers first ++ values_in l) stands_behind ∙ values_more (first_headers first) es name h
 
+-- where there is no first answer and no second, there is no second
+no_second : {T : Type 0} (first second : Option T) → or_else first second ≡ None → second ≡ None
+no_second None second e = e
+no_second (Some t) second e = cc
+
+not_mapped : {A B : Type 0} (f : A → B) (a : Option A) → option_map f a ≡ None → a ≡ None
+not_mapped f None e = refl
+not_mapped f (Some a) e = cc
+
 -- what stands for nothing is no algorithm
 no_callee : (c : Callees) (name : List ℕ) → callee c name ≡ None → head_named name c.heads ≡ None
-unfolding callee
-no_callee c name e = by_built_in (built_in_named name) e
-  where
-    by_algorithm : (h : Option Head) → or_algorithm h ≡ None → h ≡ None
-    by_algorithm None e = refl
-    by_algorithm (Some h) e = cc
-
-    by_pen : (p : Option PenShape) → or_pen p (or_algorithm (head_named name c.heads)) ≡ None → head_named name c.heads ≡ None
-    by_pen None e = by_algorithm (head_named name c.heads) e
-    by_pen (Some p) e = cc
-
-    by_robot : (r : Option RobotCommand) → or_robot r (or_pen (known_pen c.performers name) (or_algorithm (head_named name c.heads))) ≡ None → head_named name c.heads ≡ None
-    by_robot None e = by_pen (known_pen c.performers name) e
-    by_robot (Some r) e = cc
-
-    by_built_in : (b : Option BuiltIn) → or_built_in b (or_robot (known_robot c.performers name) (or_pen (known_pen c.performers name) (or_algorithm (head_named name c.heads)))) ≡ None → head_named name c.heads ≡ None
-    by_built_in None e = by_robot (known_robot c.performers name) e
-    by_built_in (Some b) e = cc
+unfolding names.callee
+no_callee c name e =
+    not_mapped names.Called (head_named name c.heads)
+    (no_second (option_map names.PenCall (if_known c.performers.pen (pen_shape_named name))) _
+    (no_second (option_map names.RobotCall (if_known c.performers.robot (robot_command_named name))) _
+    (no_second (option_map names.BuiltInCall (built_in_named name)) _ e)))
 
 pub not_found : (r : Option Callee) (c : Callees) (name : List ℕ) → some_called r ≡ callee c name → is_some r ≡ false → head_named name c.heads ≡ None
 not_found None c name e f = no_callee c name (sym e)

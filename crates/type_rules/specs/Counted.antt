@@ -5,6 +5,7 @@ use Rattle.kumir_tree.specs.Part.{Head}
 use Rattle.kumir_tree.specs.Sound.{no_performers}
 use Rattle.kumir_tree.specs.Unit.{Known}
 use Rattle.kumir_tree.specs.declared.unit.Fault.{Fault}
+use Rattle.kumir_tree.specs.declared.fault_codes.TheConstants.{NAME_TAKEN, WITHOUT_NAME}
 use Rattle.type_rules.specs.Callees.{Callees, callee}
 
 abbrev pub no_heads : Performers → Callees
@@ -13,15 +14,15 @@ no_heads performers = record { performers = performers; heads = [] }
 abbrev pub with_head : Callees → Head → Callees
 with_head c h = record { performers = c.performers; heads = c.heads ++ h ∷ [] }
 
--- 405: the header has no name, and one that counts stands before it
+-- the header has no name, and one that counts stands before it
 abbrev pub nameless_fault : List Head → Option ℕ
 nameless_fault [] = None
-nameless_fault (h ∷ heads) = Some 405
+nameless_fault (h ∷ heads) = Some WITHOUT_NAME
 
--- 404: its name stands for something already
+-- its name stands for something already
 abbrev pub name_fault : Callees → Option (List ℕ) → Option ℕ
 name_fault c None = nameless_fault c.heads
-name_fault c (Some name) = if is_some (callee c name) then Some 404 else None
+name_fault c (Some name) = if is_some (callee c name) then Some NAME_TAKEN else None
 
 -- the code of the fault of a header behind those that count; none where it counts as well
 abbrev pub head_fault : Callees → Head → Option ℕ
@@ -62,6 +63,6 @@ performers_in (prelude ∷ units) = prelude.1.performers
 abbrev pub headers_in : List (ℕ × Known) → Callees
 headers_in units = all_counted (no_heads (performers_in units)) units
 
--- the faults of its headers, 404 and 405, on the lines of the text
+-- the faults of its headers, on the lines of the text
 abbrev pub header_faults : List (ℕ × Known) → List Fault
 header_faults units = all_faults (no_heads (performers_in units)) units

@@ -7,17 +7,18 @@ use Rattle.kumir_tree.specs.Parts.{head_of}
 use Rattle.kumir_tree.specs.declared.header.Header.{Header}
 use Rattle.type_rules.specs.declared.callee.Callee.{Callee}
 use Rattle.type_rules.specs.declared.callee.Callee.TheVariants as rust
-use Rattle.type_rules.specs.Callees.{Callees, Called, CalledAlgorithm, CalledBuiltIn, CalledRobot, CalledPen, callee}
+use Rattle.kumir_names.specs.Callees as names
+use Rattle.type_rules.specs.Callees.{Callees, callee}
 
 -- ---- the code's values as plain data
 
-abbrev pub called_of : Callee → Called
-called_of (rust.Algorithm h) = CalledAlgorithm (head_of h.now)
-called_of (rust.BuiltIn b) = CalledBuiltIn b
-called_of (rust.Robot c) = CalledRobot c
-called_of (rust.Pen s) = CalledPen s
+abbrev pub called_of : Callee → names.Callee Head
+called_of (rust.Algorithm h) = names.Called (head_of h.now)
+called_of (rust.BuiltIn b) = names.BuiltInCall b
+called_of (rust.Robot c) = names.RobotCall c
+called_of (rust.Pen s) = names.PenCall s
 
-abbrev pub some_called : Option Callee → Option Called
+abbrev pub some_called : Option Callee → Option (names.Callee Head)
 some_called None = None
 some_called (Some c) = Some (called_of c)
 

@@ -1,54 +1,8 @@
-//! Built-ins, and what a name can stand for.
+//! What a name can stand for.
 
-ghost use Rattle.std.specs.Prelude.{◌≡◌};
-ghost use Rattle.type_rules.specs.Callees.{built_in_name, built_in_named};
-
+use kumir_names::BuiltIn;
 use kumir_tree::Header;
 use performer_kit::{PenShape, RobotCommand};
-
-/// A built-in, one for each of the names `div`, `mod`, `iabs`, `imin` and `imax`.
-#[derive(Clone, Copy, Debug, PartialEq, Eq)]
-pub enum BuiltIn {
-    Div,
-    Mod,
-    Iabs,
-    Imin,
-    Imax,
-}
-
-const BUILT_INS: [BuiltIn; 5] = [
-    BuiltIn::Div,
-    BuiltIn::Mod,
-    BuiltIn::Iabs,
-    BuiltIn::Imin,
-    BuiltIn::Imax,
-];
-
-impl BuiltIn {
-    #[tactic(auto, unfolding(crate::specs::Callees::built_in_name))]
-    fn letters(self) -> &'static [char]
-        ensures { result.now ≡ built_in_name self }
-    {
-        match self {
-            BuiltIn::Div => &['d', 'i', 'v'],
-            BuiltIn::Mod => &['m', 'o', 'd'],
-            BuiltIn::Iabs => &['i', 'a', 'b', 's'],
-            BuiltIn::Imin => &['i', 'm', 'i', 'n'],
-            BuiltIn::Imax => &['i', 'm', 'a', 'x'],
-        }
-    }
-
-    /// The built-in with that name. None comes exactly for other names.
-    #[tactic(auto, unfolding(crate::specs::Callees::built_in_named))]
-    pub fn of_name(name: &[char]) -> Option<BuiltIn>
-        ensures { result ≡ built_in_named name.now }
-    {
-        BUILT_INS
-            .iter()
-            .copied()
-            .find(|built_in| built_in.letters() == name)
-    }
-}
 
 /// What a name stands for that is no local one.
 #[derive(Clone, Copy)]

@@ -1,15 +1,18 @@
 //! The headers that count, found by their names.
 
 ghost use Rattle.std.specs.Prelude.{◌≡◌, ◌≢◌, ◌↔◌, [], false, IsTrue, IsSome, IfOk, IfErr, OnOk, OnErr, Some, None, Err};
-ghost use Rattle.type_rules.specs.Callees.{callee, known_robot, known_pen, head_named};
+ghost use Rattle.performer_kit.specs.Commands.{robot_command_named, pen_shape_named};
+ghost use Rattle.kumir_names.specs.Callees.{if_known};
+ghost use Rattle.type_rules.specs.Callees.{callee, head_named};
 ghost use Rattle.type_rules.specs.Headers.{some_called, some_head_behind, callees_of, no_headers, with_header, IsNameless, IsTaken};
 
-use crate::callee::{BuiltIn, Callee};
+use crate::callee::Callee;
 use indexmap::IndexMap;
 use km_base::{Memory, Performers};
+use kumir_names::BuiltIn;
 use kumir_tree::{Header, Name};
 use performer_kit::{PenShape, RobotCommand, pen_shape_of, robot_command_of};
-use std::alloc::Global;
+use std::alloc::{AllocError, AllocFailed, Global};
 use std::marker::Model;
 
 /// Why a header does not count (docs/LANGUAGE.md, "Headers").
@@ -20,6 +23,28 @@ pub enum AddRefusal {
     /// Its name is there already, or is that of a built-in or of a command of a known performer.
     Taken,
     Memory,
+}
+
+impl From<AllocFailed<(Name, Header)>> for AddRefusal {
+    ghost use Rattle.std.specs.Prelude.{◌≡◌};
+    ghost use Rattle.type_rules.specs.declared.headers.AddRefusal.TheVariants.{Memory};
+
+    ghost from_gives = { λ _ e. e ≡ Memory };
+
+    fn from(_refused: AllocFailed<(Name, Header)>) -> AddRefusal {
+        AddRefusal::Memory
+    }
+}
+
+impl From<AllocError> for AddRefusal {
+    ghost use Rattle.std.specs.Prelude.{◌≡◌};
+    ghost use Rattle.type_rules.specs.declared.headers.AddRefusal.TheVariants.{Memory};
+
+    ghost from_gives = { λ _ e. e ≡ Memory };
+
+    fn from(_refused: AllocError) -> AddRefusal {
+        AddRefusal::Memory
+    }
 }
 
 /// The performers that a program knows, and its headers that count. Contracts see the headers as a list in the order
@@ -68,7 +93,7 @@ impl Headers {
 
     /// The Robot's command with this name, where the Robot is known.
     fn robot(&self, name: &Name) -> Option<RobotCommand>
-        ensures { result ≡ known_robot self.now.performers name.now }
+        ensures { result ≡ if_known self.now.performers.robot (robot_command_named name.now) }
     {
         if self.performers.robot {
             robot_command_of(name.as_slice())
@@ -79,7 +104,7 @@ impl Headers {
 
     /// The Draughtsman's command with this name, where the Draughtsman is known.
     fn pen(&self, name: &Name) -> Option<PenShape>
-        ensures { result ≡ known_pen self.now.performers name.now }
+        ensures { result ≡ if_known self.now.performers.pen (pen_shape_named name.now) }
     {
         if self.performers.pen {
             pen_shape_of(name.as_slice())
@@ -96,9 +121,9 @@ impl Headers {
         self.named.get(name)
     }
 
-    #[tactic(auto, unfolding(crate::specs::Callees::callee))]
     /// What the name stands for: an algorithm whose header is here, a built-in, or a command of a known performer. None
     /// comes exactly where it is none of these. No memory is taken.
+    #[tactic(auto, unfolding(kumir_names::specs::Callees::callee))]
     pub fn find<'a>(&'a self, name: &Name) -> Option<Callee<'a>>
         ensures { some_called result ≡ callee (callees_of self.now) name.now }
     {
@@ -138,10 +163,8 @@ impl Headers {
         if self.is_taken(name) {
             return Err(AddRefusal::Taken);
         }
-        match name.copy(self.alloc) {
-            Ok(name) => self.add_named(name, header),
-            Err(_) => Err(AddRefusal::Memory),
-        }
+        let name = name.copy(self.alloc)?;
+        self.add_named(name, header)
     }
 
     fn add_nameless(&mut self, header: Header) -> Result<(), AddRefusal>
@@ -166,9 +189,7 @@ impl Headers {
         ensures refused { IfErr result (λ refusal. refusal ≡ AddRefusal.Memory) }
         ensures unchanged { OnErr result (self.new ≡ self.old) }
     {
-        match self.named.insert(name, header) {
-            Ok(_) => Ok(()),
-            Err(_) => Err(AddRefusal::Memory),
-        }
+        self.named.insert(name, header)?;
+        Ok(())
     }
 }

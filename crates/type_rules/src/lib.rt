@@ -3,10 +3,9 @@
 
 mod callee;
 mod headers;
-#[cfg(test)]
-mod tests;
 mod units;
 
-pub use callee::{BuiltIn, Callee};
+pub use callee::Callee;
 pub use headers::{AddRefusal, Headers};
+pub use kumir_names::BuiltIn;
 pub use units::{HeadersRead, headers_of};

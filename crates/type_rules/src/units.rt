@@ -11,11 +11,12 @@ ghost use Rattle.type_rules.specs.Counted.{counted_with, head_fault, without_fau
 
 use crate::headers::{AddRefusal, Headers};
 use km_base::{Memory, Performers};
+use kumir_tree::fault_codes::{NAME_TAKEN, WITHOUT_NAME};
 use kumir_tree::{Fault, Faults, Header, PlacedUnit, Units};
 use sqlite_items::Items;
 use std::alloc::Global;
 
-/// The headers of a program that count, with its performers, and the faults 404 and 405 of the others. Their lines are
+/// The headers of a program that count, with its performers, and the faults of the others, `NAME_TAKEN` or `WITHOUT_NAME`. Their lines are
 /// those of the text.
 #[derive(Drop)]
 pub struct HeadersRead {
@@ -52,8 +53,8 @@ fn add_or_refuse(headers: &mut Headers, header: Header) -> Result<Option<u16>, M
 {
     match headers.add(header) {
         Ok(()) => Ok(None),
-        Err(AddRefusal::Taken) => Ok(Some(404)),
-        Err(AddRefusal::Nameless) => Ok(Some(405)),
+        Err(AddRefusal::Taken) => Ok(Some(NAME_TAKEN)),
+        Err(AddRefusal::Nameless) => Ok(Some(WITHOUT_NAME)),
         Err(AddRefusal::Memory) => Err(Memory),
     }
 }

@@ -5,3 +5,4 @@ pub mod Acts
 pub mod Steps
 pub mod Reached
 pub mod Preludes
+pub mod OneEnding

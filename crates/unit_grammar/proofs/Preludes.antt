@@ -3,18 +3,19 @@ use Rattle.std.proofs.Common.{zero, suc, ◌≡◌, ℕ, ◌+◌, ◌<◌, Bool,
 use Rattle.std.proofs.lemmas.List.{take_more, map-append}
 use Rattle.kumir_tree.specs.Piece as form
 use Rattle.kumir_tree.specs.Piece.{Piece}
+use Rattle.kumir_tree.specs.declared.fault_codes.TheConstants.{MISPLACED}
 use Rattle.unit_grammar.specs.Grammar.{Placed, IsPrelude, nothing, uses}
 use Rattle.unit_grammar.specs.Structure.{HasOther, other}
 use Rattle.unit_grammar.specs.Progress.{fault_at}
 use Rattle.unit_grammar.specs.Reading.{is_use, placed_of}
 use Rattle.unit_grammar.specs.declared.placed.PlacedForm.{PlacedForm}
 
-use_more : (fs : List Placed) (line : ℕ) (f : Piece) → IsPrelude fs → is_use f ≡ true → IsPrelude (fs ++ (line, f) ∷ [])
+pub use_more : (fs : List Placed) (line : ℕ) (f : Piece) → IsPrelude fs → is_use f ≡ true → IsPrelude (fs ++ (line, f) ∷ [])
 use_more [] line (form.Uses x) nothing e = uses line x nothing
 use_more [] line f nothing e = absurd (let none : ⊥ = cc in none)
 use_more (g ∷ fs) line f (uses m x a) e = uses m x (use_more fs line f a e)
 
-last_use : (fs : List Placed) (line : ℕ) (f : Piece) → IsPrelude (fs ++ (line, f) ∷ []) → is_use f ≡ true
+pub last_use : (fs : List Placed) (line : ℕ) (f : Piece) → IsPrelude (fs ++ (line, f) ∷ []) → is_use f ≡ true
 last_use [] line f (uses m x a) = refl
 last_use (g ∷ fs) line f (uses m x a) = last_use fs line f a
 
@@ -27,10 +28,10 @@ pub prelude_more : (xs : List PlacedForm) (i : ℕ) (d : PlacedForm) → i < len
 prelude_more xs i d h a e =
     subst IsPrelude (sym (ap (map placed_of) (take_more xs i d h) ∙ map-append placed_of (take i xs) (get_or xs i d ∷ []))) (use_more (map placed_of (take i xs)) (get_or xs i d).line (placed_of (get_or xs i d)).1 a e)
 
-pub other_here : (xs : List PlacedForm) (i : ℕ) (d : PlacedForm) → i < length xs → IsPrelude (map placed_of (take i xs)) → is_use (placed_of (get_or xs i d)).1 ≡ false → HasOther (map placed_of xs) (fault_at (get_or xs i d).line 301)
+pub other_here : (xs : List PlacedForm) (i : ℕ) (d : PlacedForm) → i < length xs → IsPrelude (map placed_of (take i xs)) → is_use (placed_of (get_or xs i d)).1 ≡ false → HasOther (map placed_of xs) (fault_at (get_or xs i d).line MISPLACED)
 other_here xs i d h a e =
     let r = parted xs i d h in
-    subst (λ l. HasOther l (fault_at (get_or xs i d).line 301)) (sym r.1)
+    subst (λ l. HasOther l (fault_at (get_or xs i d).line MISPLACED)) (sym r.1)
     (other (map placed_of (take i xs)) r.0 (get_or xs i d).line (placed_of (get_or xs i d)).1 a (λ p. let both : true ≡ false = sym (last_use (map placed_of (take i xs)) (get_or xs i d).line (placed_of (get_or xs i d)).1 p) ∙ e in absurd (let none : ⊥ = cc in none)))
 
 -- ---- by a test of the form
@@ -38,8 +39,8 @@ other_here xs i d h a e =
 pub is_so : (xs : List PlacedForm) (i : ℕ) (d : PlacedForm) (r b : Bool) → d ≡ get_or xs i d → r ≡ is_use (placed_of d).1 → r ≡ b → is_use (placed_of (get_or xs i d)).1 ≡ b
 is_so xs i d r b is e t = ap (λ (x : PlacedForm). is_use (placed_of x).1) (sym is) ∙ (sym e ∙ t)
 
-pub other_at : (xs : List PlacedForm) (i : ℕ) (d : PlacedForm) → i < length xs → d ≡ get_or xs i d → IsPrelude (map placed_of (take i xs)) → is_use (placed_of (get_or xs i d)).1 ≡ false → HasOther (map placed_of xs) (fault_at d.line 301)
-other_at xs i d h is a e = subst (λ (x : PlacedForm). HasOther (map placed_of xs) (fault_at x.line 301)) (sym is) (other_here xs i d h a e)
+pub other_at : (xs : List PlacedForm) (i : ℕ) (d : PlacedForm) → i < length xs → d ≡ get_or xs i d → IsPrelude (map placed_of (take i xs)) → is_use (placed_of (get_or xs i d)).1 ≡ false → HasOther (map placed_of xs) (fault_at d.line MISPLACED)
+other_at xs i d h is a e = subst (λ (x : PlacedForm). HasOther (map placed_of xs) (fault_at x.line MISPLACED)) (sym is) (other_here xs i d h a e)
 
 pub prelude_none : (xs : List PlacedForm) → IsPrelude (map placed_of (take 0 xs))
 prelude_none [] = nothing

@@ -6,3 +6,4 @@ pub mod Views
 pub mod Kinds
 pub mod Progress
 pub mod Reading
+pub mod Laws

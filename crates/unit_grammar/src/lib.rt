@@ -7,6 +7,6 @@ mod placed;
 mod states;
 mod structure;
 
-pub use laws::{begins_unit, one_algorithm};
+pub use laws::{begins_unit, one_algorithm, one_ending};
 pub use placed::PlacedForm;
 pub use structure::{Structure, grow, misplaced};

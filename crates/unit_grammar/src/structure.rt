@@ -11,6 +11,7 @@ ghost use Rattle.unit_grammar.specs.Reading.{is_use, placed_of, progress_of, str
 
 use crate::placed::PlacedForm;
 use crate::states::{State, step};
+use kumir_tree::fault_codes::{MISPLACED, NESTED_TOO_DEEP, NOT_CLOSED};
 use kumir_tree::{Fault, Form, UnitTree};
 use std::alloc::{AllocError, Global};
 
@@ -36,10 +37,13 @@ fn fault(line: u32, code: u16) -> Structure
 
 // More blocks are open than a unit may have.
 fn too_deep(state: State, line: u32) -> Progress
-    ensures { progress_of result ≡ reading.Stopped (reading.fault_at line 202) }
+    ensures { progress_of result ≡ reading.Stopped (reading.fault_at line NESTED_TOO_DEEP) }
 {
     drop(state);
-    Progress::Stopped(Fault { line, code: 202 })
+    Progress::Stopped(Fault {
+        line,
+        code: NESTED_TOO_DEEP,
+    })
 }
 
 fn reached(state: State, line: u32) -> Progress
@@ -58,7 +62,10 @@ fn behind(state: Option<State>, line: u32) -> Progress
 {
     match state {
         Some(state) => reached(state, line),
-        None => Progress::Stopped(Fault { line, code: 301 }),
+        None => Progress::Stopped(Fault {
+            line,
+            code: MISPLACED,
+        }),
     }
 }
 
@@ -81,10 +88,10 @@ fn advance(alloc: Global, progress: Progress, placed: PlacedForm) -> Result<Prog
 
 // A unit that is not whole ends.
 fn unfinished(state: State, last: u32) -> Structure
-    ensures { structure_ending result ≡ reading.finished (reading.Stopped (reading.fault_at last 302)) }
+    ensures { structure_ending result ≡ reading.finished (reading.Stopped (reading.fault_at last NOT_CLOSED)) }
 {
     drop(state);
-    fault(last, 302)
+    fault(last, NOT_CLOSED)
 }
 
 fn end_of(state: State, last: u32) -> Structure
@@ -92,7 +99,7 @@ fn end_of(state: State, last: u32) -> Structure
 {
     match state {
         State::Whole(tree) => Structure::Tree(tree),
-        State::Empty => fault(last, 302),
+        State::Empty => fault(last, NOT_CLOSED),
         State::AfterHeader(top) => unfinished(State::AfterHeader(top), last),
         State::AfterGiven(top) => unfinished(State::AfterGiven(top), last),
         State::AfterWanted(top) => unfinished(State::AfterWanted(top), last),
@@ -148,7 +155,7 @@ pub fn misplaced(forms: &[PlacedForm]) -> Option<Fault>
         if !is_use(&placed.form) {
             return Some(Fault {
                 line: placed.line,
-                code: 301,
+                code: MISPLACED,
             });
         }
     }

@@ -1,6 +1,6 @@
 use Rattle.std.proofs.Common.{◌≡◌, ◌||◌, drop, map}
 use Rattle.kumir_tree.specs.Parts.{formal_of}
-use Rattle.type_check.specs.Parts.{parameter}
+use Rattle.kumir_names.specs.Variables.{parameter}
 use Rattle.type_check.specs.Checked.{with_locals, declared_again}
 use Rattle.type_check.proofs.check.declare_params.Given as goal
 

@@ -1,5 +1,5 @@
 use Rattle.std.proofs.Common.{◌≡◌, ◌||◌, drop, map}
-use Rattle.type_check.specs.Parts.{scalar}
+use Rattle.kumir_names.specs.Variables.{scalar}
 use Rattle.type_check.specs.Checked.{with_locals, declared_again}
 use Rattle.type_check.proofs.check.declare_scalars.Given as goal
 

@@ -1,6 +1,6 @@
 use Rattle.std.proofs.Common.{◌≡◌, ◌||◌, drop, map}
 use Rattle.kumir_tree.specs.Parts.{table_of}
-use Rattle.type_check.specs.Parts.{table}
+use Rattle.kumir_names.specs.Variables.{table}
 use Rattle.type_check.specs.Checked.{with_locals, declared_again}
 use Rattle.type_check.proofs.check.declare_tables.Given as goal
 
