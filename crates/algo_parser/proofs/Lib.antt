@@ -5,3 +5,4 @@ pub mod Makes
 pub mod FirstForms
 pub mod Sounds
 pub mod SoundReads
+pub mod OneReading

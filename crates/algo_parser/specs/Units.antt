@@ -7,6 +7,7 @@ use Rattle.km_base.specs.declared.performers.Performers.{Performers}
 use Rattle.kumir_tree.specs.declared.token.Token.{Token}
 use Rattle.kumir_tree.specs.declared.token.Spanned.{Spanned}
 use Rattle.kumir_tree.specs.declared.unit.Fault.{Fault}
+use Rattle.kumir_tree.specs.declared.fault_codes.TheConstants.{NOT_UNDERSTOOD, NESTED_TOO_DEEP, UNKNOWN_PERFORMER}
 use Rattle.kumir_tree.specs.Part.{Head}
 use Rattle.kumir_tree.specs.Piece as form
 use Rattle.kumir_tree.specs.Piece.{Piece}
@@ -71,8 +72,8 @@ lexical_faults line (s ∷ ss) = lexical_at line s.fault ++ lexical_faults (line
 
 abbrev pub piece_fault : ℕ → Heard → List Fault
 piece_fault line (Understood f) = []
-piece_fault line NotUnderstood = fault_at line 201 ∷ []
-piece_fault line TooDeep = fault_at line 202 ∷ []
+piece_fault line NotUnderstood = fault_at line NOT_UNDERSTOOD ∷ []
+piece_fault line TooDeep = fault_at line NESTED_TOO_DEEP ∷ []
 
 abbrev pub piece_faults : ℕ → List Said → List Fault
 piece_faults line [] = []
@@ -125,7 +126,7 @@ performers_of uses = record {
 }
 
 abbrev pub unknown_at : ℕ → Option Performer → List Fault
-unknown_at line None = fault_at line 407 ∷ []
+unknown_at line None = fault_at line UNKNOWN_PERFORMER ∷ []
 unknown_at line (Some performer) = []
 
 abbrev pub unknown_of : List (ℕ × List ℕ) → List Fault

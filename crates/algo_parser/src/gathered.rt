@@ -12,6 +12,7 @@ ghost use Rattle.performer_kit.specs.Commands.{performer_named};
 use crate::heard::{Heard, Said, read_line};
 use km_base::{Memory, Noted, Performer, Performers};
 use kumir_lexer::LexFault;
+use kumir_tree::fault_codes::{NESTED_TOO_DEEP, NOT_UNDERSTOOD, UNKNOWN_PERFORMER};
 use kumir_tree::{Fault, Faults, Form, Header, Line};
 use performer_kit::performer_of_name;
 use sqlite_items::Items;
@@ -46,8 +47,14 @@ fn add_piece_fault(faults: &mut Faults, line: u32, piece: &Heard) -> Result<(), 
 {
     match piece {
         Heard::Understood(_) => Ok(()),
-        Heard::NotUnderstood => faults.push(Fault { line, code: 201 }),
-        Heard::TooDeep => faults.push(Fault { line, code: 202 }),
+        Heard::NotUnderstood => faults.push(Fault {
+            line,
+            code: NOT_UNDERSTOOD,
+        }),
+        Heard::TooDeep => faults.push(Fault {
+            line,
+            code: NESTED_TOO_DEEP,
+        }),
     }
 }
 
@@ -129,7 +136,10 @@ fn add_performer(
             performers.pen = true;
             Ok(())
         }
-        None => unknown.push(Fault { line, code: 407 }),
+        None => unknown.push(Fault {
+            line,
+            code: UNKNOWN_PERFORMER,
+        }),
     }
 }
 

@@ -5,7 +5,5 @@
 
 mod ends;
 mod rule;
-#[cfg(test)]
-mod tests;
 
 pub use ends::{Looker, Raiser, beacon, settle};

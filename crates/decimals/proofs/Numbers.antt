@@ -1,9 +1,11 @@
 -- Numbers are read from their one spelling.
-use Rattle.std.proofs.Common.{◌≡◌, ℕ, ℤ, suc, ◌+◌, [], ◌∷◌, length, get_or, eqb, rules, ◌^◌, ◌<◌, Bool, true, false, cond, ◌&&◌, List, Some, None, Result, Ok, refl, sym, ap, subst, ◌∙◌, arith}
+use Rattle.std.proofs.Common.{◌≡◌, ℕ, ℤ, to_z, of_z, suc, ◌+◌, [], ◌∷◌, get_or, eqb, rules, ◌^◌, ◌<◌, Bool, true, false, cond, ◌&&◌, List, Some, None, Result, Ok, Err, refl, sym, ap, subst, ◌∙◌, arith}
 use Rattle.std.specs.Prelude.{nat_lt}
 use Rattle.std.specs.Int.Signed.{mag}
 use Rattle.std.specs.Prelude.{FitsSigned}
-use Rattle.std.specs.Int.{w32, w64}
+use Rattle.std.specs.Int.{w32, w64, FitsUnsignedBits}
+use Rattle.std.specs.Result.{OkIff, result_ok}
+use Rattle.std.proofs.lemmas.Int.{to_z-of_z}
 use Rattle.std.specs.Fmt.{decimal, signed_decimal}
 use Rattle.std.specs.Str.{bytes_eq}
 use Rattle.std.specs.Str.Parse.{digits_value, signed_digits_value, ParsesSigned}
@@ -11,7 +13,7 @@ use Rattle.std.proofs.lemmas.Bool.{false≢true}
 use Rattle.std.proofs.lemmas.Bool.Decides.{Decides-ltb}
 use Rattle.std.proofs.lemmas.Slice.Eq.{bytes_eq-Decides}
 use Rattle.std.specs.Prelude.{All}
-use lib.IntN.{pos, negsuc, neg_ℤ}
+use lib.IntN.{pos, negsuc, neg_ℤ, nat_abs}
 use Rattle.std.proofs.lemmas.Bool.Decides.{nat_tests}
 use Rattle.std.proofs.lemmas.List.{get_or_default}
 use Rattle.std.proofs.lemmas.List.Elements.{All-cons}
@@ -74,12 +76,6 @@ words_same a b r is equal = (bytes_eq-Decides a b).0 (sym is ∙ equal)
 pub ok_same : {A E : Type 0} (r : Result A E) (x y : A) → r ≡ Ok x → r ≡ Ok y → x ≡ y
 ok_same r x y p q = cc
 
--- what `parse` read
-pub whole_parsed : {E : Type 0} (word : List ℕ) (r : Result ℤ E) (z : ℤ) → ParsesSigned w32 10 word r → r ≡ Ok z → FitsSigned w32 z × (z ≡ signed_digits_value 10 word)
-whole_parsed word r z parses is =
-    let at = subst (ParsesSigned w32 10 word) is parses in
-    (subst (FitsSigned w32) (sym at.1) at.0.1, at.1)
-
 -- the range of 32 bits
 pub whole_fits : (z : ℤ) → mag z < 2 ^ 31 → FitsSigned w32 z
 whole_fits z h = search rules
@@ -87,7 +83,6 @@ whole_fits z h = search rules
 pub whole_small : (z : ℤ) → FitsSigned w32 z → mag z < 2 ^ 31
 whole_small z h = search rules
 
--- the same for 64 bits
 pub wide_is : (word : List ℕ) (z : ℤ) → mag z < 2 ^ 63 → z ≡ signed_digits_value 10 word → word ≡ signed_decimal z → wide_of word ≡ Some z
 unfolding wide_of
 wide_is word z small value is =
@@ -101,11 +96,13 @@ wide_not word none =
     none_if (nat_lt (mag (signed_digits_value 10 word)) (2 ^ 63) && bytes_eq (signed_decimal (signed_digits_value 10 word)) word) (signed_digits_value 10 word)
     (λ test. let parts = and_parts _ _ test in none (signed_digits_value 10 word) ((Decides-ltb (mag (signed_digits_value 10 word)) (2 ^ 63)).0 parts.0) (sym ((bytes_eq-Decides (signed_decimal (signed_digits_value 10 word)) word).0 parts.1)))
 
+-- what `parse` read
 pub wide_parsed : {E : Type 0} (word : List ℕ) (r : Result ℤ E) (z : ℤ) → ParsesSigned w64 10 word r → r ≡ Ok z → FitsSigned w64 z × (z ≡ signed_digits_value 10 word)
 wide_parsed word r z parses is =
     let at = subst (ParsesSigned w64 10 word) is parses in
     (subst (FitsSigned w64) (sym at.1) at.0.1, at.1)
 
+-- the range of 64 bits
 pub wide_fits : (z : ℤ) → mag z < 2 ^ 63 → FitsSigned w64 z
 wide_fits z h = search rules
 
@@ -182,3 +179,55 @@ wide_only word z is =
     let read = some_when (nat_lt (mag (signed_digits_value 10 word)) (2 ^ 63) && bytes_eq (signed_decimal (signed_digits_value 10 word)) word) (signed_digits_value 10 word) z is in
     let parts = and_parts _ _ read.0 in
     (subst (λ y. mag y < 2 ^ 63) read.1 ((Decides-ltb (mag (signed_digits_value 10 word)) (2 ^ 63)).0 parts.0), sym ((bytes_eq-Decides (signed_decimal (signed_digits_value 10 word)) word).0 parts.1) ∙ ap signed_decimal read.1)
+
+-- ---- a narrower number is a wide one in its range
+
+none_else : {A : Type 0} (x : A) → None ≡ Some x → ⊥
+none_else x e = cc
+
+some_same : {A : Type 0} (x y : A) → Some x ≡ Some y → x ≡ y
+some_same x y e = cc
+
+wide_whole : (word : List ℕ) (z : ℤ) → mag z < 2 ^ 31 → word ≡ signed_decimal z → wide_of word ≡ Some z
+wide_whole word z small is = ap wide_of is ∙ wide_again z (omega (arith, small))
+
+pub whole_of_none : (word : List ℕ) → None ≡ wide_of word → None ≡ whole_of word
+whole_of_none word none = sym (whole_not word (λ z small is. none_else z (none ∙ wide_whole word z small is)))
+
+whole_of_ok : {E : Type 0} (word : List ℕ) (z : ℤ) (r : Result ℤ E) → Some z ≡ wide_of word → OkIff r (FitsSigned w32 z) z → result_ok r ≡ whole_of word
+whole_of_ok word z (Ok x) read fits =
+    let is = wide_only word z (sym read) in
+    ap Some fits.1 ∙ sym (whole_is word z (whole_small z fits.0) (sym (ap (signed_digits_value 10) is.1 ∙ value_again z is.0)) is.1)
+whole_of_ok word z (Err e) read fits =
+    sym (whole_not word (λ y small is. fits (subst (FitsSigned w32) (sym (some_same z y (read ∙ wide_whole word y small is))) (whole_fits y small))))
+
+pub whole_of_some : {E : Type 0} (word : List ℕ) (z : ℤ) (r : Result ℤ E) → Some z ≡ wide_of word → OkIff r (FitsSigned w32 (to_z w64 (of_z w64 z))) (to_z w64 (of_z w64 z)) → result_ok r ≡ whole_of word
+whole_of_some word z r read fits =
+    let same = to_z-of_z w64 z (wide_fits z (wide_only word z (sym read)).0) in
+    whole_of_ok word z r read (subst (λ y. OkIff r (FitsSigned w32 y) y) same fits)
+
+wide_number : (word : List ℕ) (n : ℕ) → n < 2 ^ 32 → word ≡ decimal n → wide_of word ≡ Some (pos n)
+wide_number word n small is = ap wide_of is ∙ wide_again (pos n) (omega (arith, small))
+
+pub number_of_none : (word : List ℕ) → None ≡ wide_of word → None ≡ number_of word
+number_of_none word none = sym (number_not word (λ n small is. none_else (pos n) (none ∙ wide_number word n small is)))
+
+fits_number : (n : ℕ) → n < 2 ^ 32 → FitsUnsignedBits 32 (pos n)
+fits_number n h = search rules
+
+number_fits : (z : ℤ) → FitsUnsignedBits 32 z → (n : ℕ) × (z ≡ pos n) × (n < 2 ^ 32)
+number_fits (pos n) fits = (n, refl, search rules)
+number_fits (negsuc n) fits = absurd (search rules)
+
+number_of_ok : {E : Type 0} (word : List ℕ) (z : ℤ) (r : Result ℕ E) → Some z ≡ wide_of word → OkIff r (FitsUnsignedBits 32 z) (nat_abs z) → result_ok r ≡ number_of word
+number_of_ok word z (Ok x) read fits =
+    let n = number_fits z fits.0 in
+    let is = wide_only word z (sym read) in
+    ap Some (fits.1 ∙ ap nat_abs n.1) ∙ sym (number_is word n.0 n.2 (is.1 ∙ ap signed_decimal n.1))
+number_of_ok word z (Err e) read fits =
+    sym (number_not word (λ n small is. fits (subst (FitsUnsignedBits 32) (sym (some_same z (pos n) (read ∙ wide_number word n small is))) (fits_number n small))))
+
+pub number_of_some : {E : Type 0} (word : List ℕ) (z : ℤ) (r : Result ℕ E) → Some z ≡ wide_of word → OkIff r (FitsUnsignedBits 32 (to_z w64 (of_z w64 z))) (nat_abs (to_z w64 (of_z w64 z))) → result_ok r ≡ number_of word
+number_of_some word z r read fits =
+    let same = to_z-of_z w64 z (wide_fits z (wide_only word z (sym read)).0) in
+    number_of_ok word z r read (subst (λ y. OkIff r (FitsUnsignedBits 32 y) (nat_abs y)) same fits)

@@ -3,6 +3,11 @@ use Rattle.std.specs.Prelude.{◌≡◌, List, [], ◌∷◌, drop, Option, Some
 use denote.Enum.Bare.{sameb}
 use Rattle.kumir_tree.specs.contracts.token.Sign as the_sign
 use Rattle.kumir_tree.specs.contracts.token.Key as the_key
+use Rattle.kumir_tree.specs.declared.kind.Op.{Op}
+use Rattle.kumir_tree.specs.declared.expr.Expr.{Expr}
+use Rattle.kumir_tree.specs.Seen.{tree}
+use Rattle.kumir_tree.specs.Tree as e
+use Rattle.kumir_tree.specs.Tree.{Tree}
 use Rattle.kumir_tree.specs.declared.token.Token.{Token}
 use Rattle.kumir_tree.specs.declared.token.Token.TheVariants as t
 use Rattle.kumir_tree.specs.declared.token.Sign.{Sign}
@@ -69,3 +74,8 @@ Gives view outcome (Ok a) new = outcome ≡ Some (view a, new)
 Gives view outcome (Err Memory) new = ⊤
 Gives view outcome (Err NotUnderstood) new = outcome ≡ None
 Gives view outcome (Err TooDeep) new = ⊥
+
+-- what is made of an operator with both of its sides, where the right one is read
+abbrev pub Joins : Op → Tree → Tree → Result Expr PieceFault → Type 0
+Joins op left made (Ok right) = made ≡ e.Binary op left (tree right)
+Joins op left made (Err fault) = ⊥

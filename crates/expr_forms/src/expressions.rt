@@ -1,9 +1,11 @@
 //! Expressions, read from the left with one token of look-ahead. Only brackets are read by recursion.
-ghost use Rattle.std.specs.Prelude.{◌≡◌, ◌+◌, length, map};
+ghost use Rattle.std.specs.Prelude.{◌≡◌, ◌⊎◌, ◌+◌, length, map, Err, IfOk, IfErr};
 ghost use Rattle.std.specs.Option.{option_copied};
 ghost use Rattle.kumir_tree.specs.Seen.{tree, trees};
 ghost use Rattle.expr_forms.specs.Looks.{Gives};
 ghost use Rattle.expr_forms.specs.Reading as spec;
+ghost use Rattle.expr_forms.specs.Looks.{Joins};
+ghost use Rattle.expr_forms.specs.declared.fault.PieceFault.TheVariants.{Memory};
 ghost use Rattle.expr_forms.specs.PartReading as part;
 ghost use Rattle.expr_forms.specs.Nests.{Nests};
 
@@ -65,6 +67,30 @@ fn multiplicative(token: Option<&Token>) -> Option<Op>
     match token {
         Some(Token::Sign(Sign::Times)) => Some(Op::Times),
         _ => None,
+    }
+}
+
+// No value: the right side is none.
+fn no_right(left: Expr, fault: PieceFault) -> PieceFault
+    ensures { result ≡ fault }
+{
+    drop(left);
+    fault
+}
+
+// An operator with the side on its left, and with what was read of the one on its right.
+fn joined(
+    alloc: Global,
+    op: Op,
+    left: Expr,
+    right: Result<Expr, PieceFault>,
+) -> Result<Expr, PieceFault>
+    ensures made { IfOk result (λ x. Joins op (tree left) (tree x) right) }
+    ensures refused { IfErr result (λ fault. fault ≡ Memory ⊎ (right ≡ Err fault)) }
+{
+    match right {
+        Ok(right) => Ok(Expr::binary_of(alloc, op, left, right)?),
+        Err(fault) => Err(no_right(left, fault)),
     }
 }
 
@@ -222,7 +248,7 @@ impl<F: Fn(Global, &mut Cursor<'_>, usize) -> Result<Expr, PieceFault>> Grammar<
                 return Ok(left);
             };
             tokens.skip();
-            left = Expr::binary_of(self.alloc, op, left, self.signed(tokens)?)?;
+            left = joined(self.alloc, op, left, self.signed(tokens))?;
         }
         Ok(left)
     }
@@ -238,7 +264,7 @@ impl<F: Fn(Global, &mut Cursor<'_>, usize) -> Result<Expr, PieceFault>> Grammar<
                 return Ok(left);
             };
             tokens.skip();
-            left = Expr::binary_of(self.alloc, op, left, self.product(tokens)?)?;
+            left = joined(self.alloc, op, left, self.product(tokens))?;
         }
         Ok(left)
     }
@@ -253,8 +279,7 @@ impl<F: Fn(Global, &mut Cursor<'_>, usize) -> Result<Expr, PieceFault>> Grammar<
             return Ok(left);
         };
         tokens.skip();
-        let right = self.sum(tokens)?;
-        Ok(Expr::binary_of(self.alloc, op, left, right)?)
+        joined(self.alloc, op, left, self.sum(tokens))
     }
 
     // A `не`, or the comparison behind all of them.
@@ -295,7 +320,7 @@ impl<F: Fn(Global, &mut Cursor<'_>, usize) -> Result<Expr, PieceFault>> Grammar<
                 return Ok(left);
             };
             tokens.skip();
-            left = Expr::binary_of(self.alloc, op, left, self.negation(tokens)?)?;
+            left = joined(self.alloc, op, left, self.negation(tokens))?;
         }
         Ok(left)
     }
@@ -311,7 +336,7 @@ impl<F: Fn(Global, &mut Cursor<'_>, usize) -> Result<Expr, PieceFault>> Grammar<
                 return Ok(left);
             };
             tokens.skip();
-            left = Expr::binary_of(self.alloc, op, left, self.conjunction(tokens)?)?;
+            left = joined(self.alloc, op, left, self.conjunction(tokens))?;
         }
         Ok(left)
     }

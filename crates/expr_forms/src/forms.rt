@@ -1,5 +1,5 @@
 //! Forms, each by its first token.
-ghost use Rattle.std.specs.Prelude.{◌≡◌, Some, None, Err, IfOk};
+ghost use Rattle.std.specs.Prelude.{◌≡◌, Some, None, Ok, Err, IfOk, if◌then◌else◌};
 ghost use Rattle.kumir_tree.specs.Seen.{tree};
 ghost use Rattle.kumir_tree.specs.Parts.{place_of};
 ghost use Rattle.kumir_tree.specs.Pieces.{piece_of};
@@ -223,6 +223,21 @@ fn form(alloc: Global, tokens: &mut Cursor<'_>) -> Result<Form, PieceFault>
     }
 }
 
+// No form: there are tokens behind it.
+fn not_all(form: Form) -> PieceFault
+    ensures { result ≡ NotUnderstood }
+{
+    drop(form);
+    PieceFault::NotUnderstood
+}
+
+// The form, where it is all that there is.
+fn if_all(form: Form, all: bool) -> Result<Form, PieceFault>
+    ensures { result ≡ (if all then Ok form else Err NotUnderstood) }
+{
+    if all { Ok(form) } else { Err(not_all(form)) }
+}
+
 /// The form that all of the tokens are.
 #[tactic(auto, unfolding(crate::specs::FormReading::whole))]
 pub fn whole_form(alloc: Global, tokens: &[Spanned]) -> Result<Form, PieceFault>
@@ -232,8 +247,5 @@ pub fn whole_form(alloc: Global, tokens: &[Spanned]) -> Result<Form, PieceFault>
 {
     let mut rest = Cursor::new(tokens);
     let found = form(alloc, &mut rest)?;
-    if !rest.is_empty() {
-        return Err(PieceFault::NotUnderstood);
-    }
-    Ok(found)
+    if_all(found, rest.is_empty())
 }

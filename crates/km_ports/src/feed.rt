@@ -1,4 +1,4 @@
-//! Bytes that are given away from the front.
+//! Bytes of which the first are given away.
 
 ghost use Rattle.std.specs.Prelude.{◌≡◌, ◌++◌, length, min, take};
 

@@ -8,8 +8,6 @@ mod outside;
 mod port;
 mod status;
 mod sure;
-#[cfg(test)]
-mod tests;
 mod whole;
 
 pub use mem::{MemSink, MemSource};

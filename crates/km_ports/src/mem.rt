@@ -2,7 +2,7 @@
 
 ghost use Rattle.std.specs.Prelude.{◌≡◌, ◌<◌, ◌≤◌, ◌↔◌, [], Some, List, ℕ, length, min, take, IfOk, IsErrOf, OnErr, IsErr, is_err, Err};
 ghost use Rattle.std.specs.Io.KnownBytes.{IsAtEnd};
-ghost use Rattle.km_ports.specs.Calls.{no_calls, after_call, FailsNext};
+ghost use Rattle.km_ports.specs.Calls.{no_calls, after_call, FailsNext, source_state, sink_state};
 ghost use Rattle.km_ports.specs.Ports.{TakesFrom, PutsInto, CountsTake, CountsPut, put_failed};
 
 use crate::calls::CallLog;
@@ -42,18 +42,16 @@ impl MemSource {
 }
 
 impl Source for MemSource {
-    ghost left = { λ source. Some source.left };
-
-    ghost faults = { λ source. source.calls.failed };
+    ghost state = { source_state };
 
     /// As every source, and exactly as `new` says.
     fn take(&mut self, piece: &mut [u8]) -> Result<usize, Failed>
         ensures within { IfOk result (λ count. count ≤ length piece.new) }
-        ensures bytes { IfOk result (λ count. TakesFrom (Some self.old.left) (Some self.new.left) (take count piece.new)) }
+        ensures bytes { IfOk result (λ count. TakesFrom (source_state self.old) (source_state self.new) (take count piece.new)) }
         ensures end { IfOk result (λ count. count ≡ 0 → 0 < length piece.new → IsAtEnd (Some self.old.left)) }
         ensures unchanged { OnErr result (Some self.new.left ≡ Some self.old.left) }
         ensures later { self.old.calls.failed ≤ self.new.calls.failed }
-        ensures cause { CountsTake self.old.calls.failed self.new.calls.failed result }
+        ensures cause { CountsTake (source_state self.old) (source_state self.new) result }
 
         ensures fails { IsErr result ↔ FailsNext self.old.calls }
         ensures calls { self.new.calls ≡ after_call self.old.calls (is_err result) }
@@ -105,18 +103,16 @@ impl MemSink {
 }
 
 impl Sink for MemSink {
-    ghost written = { λ sink. Some sink.written };
-
-    ghost faults = { λ sink. sink.calls.failed };
+    ghost state = { sink_state };
 
     /// As every sink, and exactly as `new` says. A call that wants memory counts as a call.
     fn put(&mut self, piece: &[u8]) -> Result<usize, PutFault>
         ensures within { IfOk result (λ count. count ≤ length piece.now) }
         ensures some { IfOk result (λ count. 0 < length piece.now → 0 < count) }
-        ensures bytes { IfOk result (λ count. PutsInto (Some self.old.written) (Some self.new.written) (take count piece.now)) }
+        ensures bytes { IfOk result (λ count. PutsInto (sink_state self.old) (sink_state self.new) (take count piece.now)) }
         ensures unchanged { OnErr result (Some self.new.written ≡ Some self.old.written) }
         ensures later { self.old.calls.failed ≤ self.new.calls.failed }
-        ensures cause { CountsPut self.old.calls.failed self.new.calls.failed result }
+        ensures cause { CountsPut (sink_state self.old) (sink_state self.new) result }
 
         ensures fails { IsErrOf result PutFault.Failed ↔ FailsNext self.old.calls }
         ensures calls { self.new.calls ≡ after_call self.old.calls (put_failed result) }

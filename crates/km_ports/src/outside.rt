@@ -3,7 +3,7 @@
 ghost use Rattle.std.specs.Prelude.{◌≡◌, ◌<◌, ◌≤◌, None, length, IfOk};
 ghost use Rattle.std.specs.Io.KnownBytes.{ReadConsumes, WriteAppends};
 ghost use Rattle.km_ports.specs.Ports.{CountsTake, CountsPut};
-ghost use Rattle.km_ports.specs.Outside.{reader_of, writer_of};
+ghost use Rattle.km_ports.specs.Outside.{reader_of, writer_of, source_state, sink_state};
 
 use crate::port::{Failed, PutFault, Sink, Source};
 use km_base::{Ledger, Steps};
@@ -25,8 +25,7 @@ impl<R: Read> StdSource<R> {
     /// No call failed.
     pub fn new(inner: R) -> StdSource<R>
         ensures reader { reader_of result ≡ inner }
-        ensures left { ⟦<StdSource<R> as Source>⟧.left result ≡ None }
-        ensures faults { ⟦<StdSource<R> as Source>⟧.faults result ≡ 0 }
+        ensures state { ⟦<StdSource<R> as Source>⟧.state result ≡ record { left = None; faults = 0 } }
     {
         StdSource {
             inner,
@@ -36,15 +35,13 @@ impl<R: Read> StdSource<R> {
 }
 
 impl<R: Read> Source for StdSource<R> {
-    ghost left = { λ _. None };
-
-    ghost faults = { λ source. source.faults };
+    ghost state = { source_state };
 
     /// As every source, and what the reader tells.
     fn take(&mut self, piece: &mut [u8]) -> Result<usize, Failed>
         ensures within { IfOk result (λ count. count ≤ length piece.new) }
         ensures later { self.old.faults ≤ self.new.faults }
-        ensures cause { CountsTake self.old.faults self.new.faults result }
+        ensures cause { CountsTake (source_state self.old) (source_state self.new) result }
         ensures reader { ReadConsumes (R.remaining (reader_of self.old)) (R.remaining (reader_of self.new)) result piece.new }
     {
         match self.inner.read(piece) {
@@ -69,8 +66,7 @@ impl<W: Write> StdSink<W> {
     /// No call failed.
     pub fn new(inner: W) -> StdSink<W>
         ensures writer { writer_of result ≡ inner }
-        ensures written { ⟦<StdSink<W> as Sink>⟧.written result ≡ None }
-        ensures faults { ⟦<StdSink<W> as Sink>⟧.faults result ≡ 0 }
+        ensures state { ⟦<StdSink<W> as Sink>⟧.state result ≡ record { written = None; faults = 0 } }
     {
         StdSink {
             inner,
@@ -80,16 +76,14 @@ impl<W: Write> StdSink<W> {
 }
 
 impl<W: Write> Sink for StdSink<W> {
-    ghost written = { λ _. None };
-
-    ghost faults = { λ sink. sink.faults };
+    ghost state = { sink_state };
 
     /// As every sink, and what the writer tells.
     fn put(&mut self, piece: &[u8]) -> Result<usize, PutFault>
         ensures within { IfOk result (λ count. count ≤ length piece.now) }
         ensures some { IfOk result (λ count. 0 < length piece.now → 0 < count) }
         ensures later { self.old.faults ≤ self.new.faults }
-        ensures cause { CountsPut self.old.faults self.new.faults result }
+        ensures cause { CountsPut (sink_state self.old) (sink_state self.new) result }
         ensures writer { WriteAppends (W.contents (writer_of self.old)) (W.contents (writer_of self.new)) result piece.now }
     {
         match self.inner.write(piece) {

@@ -1,7 +1,13 @@
 //! The status that a command ends with.
 
 ghost use Rattle.std.specs.Prelude.{◌≡◌};
-ghost use Rattle.km_ports.specs.Status.{status_number};
+ghost use Rattle.km_ports.specs.declared.status.Status.TheVariants.{Read as ReadFault, Memory as WantOfMemory};
+ghost use Rattle.km_ports.specs.Status.{status_number, put_status, read_status};
+
+use crate::port::{Failed, PutFault};
+use crate::whole::ReadRefusal;
+use km_base::Memory;
+use std::alloc::AllocError;
 
 /// Which limit the input passes (docs/PROGRAM.md, "Limits").
 #[derive(Clone, Copy, Debug, PartialEq, Eq)]
@@ -49,6 +55,53 @@ impl Status {
             Status::Memory => 5,
             Status::NotUtf8 { .. } => 6,
             Status::TooLong(_) => 7,
+        }
+    }
+}
+
+impl From<Memory> for Status {
+    ghost from_gives = { λ _ status. status ≡ WantOfMemory };
+
+    fn from(_refused: Memory) -> Status {
+        Status::Memory
+    }
+}
+
+impl From<AllocError> for Status {
+    ghost from_gives = { λ _ status. status ≡ WantOfMemory };
+
+    fn from(_refused: AllocError) -> Status {
+        Status::Memory
+    }
+}
+
+impl From<Failed> for Status {
+    ghost from_gives = { λ _ status. status ≡ ReadFault };
+
+    fn from(_failed: Failed) -> Status {
+        Status::Read
+    }
+}
+
+impl From<PutFault> for Status {
+    ghost from_gives = { λ fault status. status ≡ put_status fault };
+
+    fn from(fault: PutFault) -> Status {
+        match fault {
+            PutFault::Failed => Status::Write,
+            PutFault::Memory => Status::Memory,
+        }
+    }
+}
+
+impl From<ReadRefusal> for Status {
+    ghost from_gives = { λ refusal status. status ≡ read_status refusal };
+
+    fn from(refusal: ReadRefusal) -> Status {
+        match refusal {
+            ReadRefusal::Failed => Status::Read,
+            ReadRefusal::TooLong => Status::TooLong(Excess::Bytes),
+            ReadRefusal::Memory => Status::Memory,
         }
     }
 }

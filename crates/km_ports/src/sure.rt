@@ -33,9 +33,7 @@ impl SureSource {
 }
 
 impl Source for SureSource {
-    ghost left = { λ source. Some source };
-
-    ghost faults = { λ _. 0 };
+    ghost state = { λ source. record { left = Some source; faults = 0 } };
 
     /// Gives as many bytes as are left and as the piece has room for.
     fn take(&mut self, piece: &mut [u8]) -> Result<usize, Failed> {
@@ -77,9 +75,7 @@ impl VecSink {
 }
 
 impl Sink for VecSink {
-    ghost written = { λ sink. Some sink };
-
-    ghost faults = { λ _. 0 };
+    ghost state = { λ sink. record { written = Some sink; faults = 0 } };
 
     /// Appends the whole piece, or nothing for want of memory.
     fn put(&mut self, piece: &[u8]) -> Result<usize, PutFault> {

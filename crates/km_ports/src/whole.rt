@@ -4,7 +4,7 @@ ghost use Rattle.std.specs.Prelude.{◌≡◌, ◌+◌, ◌≤◌, ◌++◌, ℕ
 ghost use Rattle.std.specs.Io.KnownBytes.{IsAtEnd};
 ghost use Rattle.km_ports.specs.declared.whole.ReadRefusal.TheVariants.{Failed, Memory};
 ghost use Rattle.km_ports.specs.Ports.{TakesFrom, PutsInto, CountsPut};
-ghost use Rattle.km_ports.specs.Whole.{IsWhole, IsLongerThan, TakesExactly, TakesUpTo, PutsFront, CountsRead};
+ghost use Rattle.km_ports.specs.Whole.{IsWhole, IsLongerThan, TakesExactly, TakesUpTo, PutsPrefix, CountsRead};
 
 use crate::port::{Failed, PutFault, Sink, Source};
 use std::alloc::{AllocError, Global};
@@ -39,27 +39,30 @@ impl From<AllocError> for ReadRefusal {
     }
 }
 
-/// Reads a source to its end, within a limit of bytes. It never asks for more bytes than the limit and one, less
-/// those that were read. After a refusal what was read is lost.
+/// Reads a source to its end, within a limit of bytes. It takes no more bytes than the limit and one. After a refusal
+/// what was read is lost.
 pub fn read_within<I: Source>(
     alloc: Global,
     input: &mut I,
     most: usize,
 ) -> Result<Vec<u8>, ReadRefusal>
     // All that was left is here, and nothing is left.
-    ensures whole { IfOk result (λ bytes. IsWhole (I.left input.old) (I.left input.new) bytes.items) }
+    ensures whole { IfOk result (λ bytes. IsWhole (I.state input.old) (I.state input.new) bytes.items) }
     ensures within { IfOk result (λ bytes. vec_len bytes ≤ most) }
-    ensures bytes { IfOk result (λ bytes. TakesFrom (I.left input.old) (I.left input.new) bytes.items) }
-    ensures end { OnOk result (IsAtEnd (I.left input.new)) }
+    ensures bytes { IfOk result (λ bytes. TakesFrom (I.state input.old) (I.state input.new) bytes.items) }
+    ensures end { OnOk result (IsAtEnd (I.state input.new).left) }
 
-    // The limit and one byte were read, so the source has more than the limit.
-    ensures long { IsErrOf result ReadRefusal.TooLong → IsLongerThan most (I.left input.old) }
-    ensures excess { IsErrOf result ReadRefusal.TooLong → TakesExactly (most + 1) (I.left input.old) (I.left input.new) }
-    ensures front { OnErr result (TakesUpTo (most + 1) (I.left input.old) (I.left input.new)) }
+    // No more than the limit and one byte were taken.
+    ensures taken { TakesUpTo (most + 1) (I.state input.old) (I.state input.new) }
+
+    // The limit and one byte were taken, so the source has more than the limit.
+    ensures long { IsErrOf result ReadRefusal.TooLong → IsLongerThan most (I.state input.old) }
+    ensures excess { IsErrOf result ReadRefusal.TooLong →
+        TakesExactly (most + 1) (I.state input.old) (I.state input.new) }
 
     // The count of faults rose exactly where `Failed` is answered.
-    ensures later { I.faults input.old ≤ I.faults input.new }
-    ensures cause { CountsRead (I.faults input.old) (I.faults input.new) result }
+    ensures later { (I.state input.old).faults ≤ (I.state input.new).faults }
+    ensures cause { CountsRead (I.state input.old) (I.state input.new) result }
 {
     let mut found = Vec::new(alloc);
     while found.len() <= most {
@@ -80,12 +83,13 @@ fn read_more<I: Source>(
 ) -> Result<usize, ReadRefusal>
     ensures within { IfOk result (λ count. count ≤ room + 1) }
     ensures found { IfOk result (λ count. vec_len found.new ≡ vec_len found.old + count) }
-    ensures bytes { IfOk result (λ count. (taken : List ℕ) × (found.new.items ≡ found.old.items ++ taken) × TakesFrom (I.left input.old) (I.left input.new) taken) }
-    ensures end { IfOk result (λ count. count ≡ 0 → IsAtEnd (I.left input.old)) }
-    ensures front { OnErr result (TakesUpTo (room + 1) (I.left input.old) (I.left input.new)) }
+    ensures bytes { IfOk result (λ count. (taken : List ℕ) × (found.new.items ≡ found.old.items ++ taken)
+        × TakesFrom (I.state input.old) (I.state input.new) taken) }
+    ensures end { IfOk result (λ count. count ≡ 0 → IsAtEnd (I.state input.old).left) }
+    ensures taken { OnErr result (TakesUpTo (room + 1) (I.state input.old) (I.state input.new)) }
     ensures long { IsErrOf result ReadRefusal.TooLong → ⊥ }
-    ensures later { I.faults input.old ≤ I.faults input.new }
-    ensures cause { CountsRead (I.faults input.old) (I.faults input.new) result }
+    ensures later { (I.state input.old).faults ≤ (I.state input.new).faults }
+    ensures cause { CountsRead (I.state input.old) (I.state input.new) result }
 {
     let mut piece = [0; PIECE_BYTES];
     let asked = room.min(PIECE_BYTES - 1) + 1;
@@ -96,14 +100,14 @@ fn read_more<I: Source>(
 
 /// Writes all of these bytes.
 pub fn put_all<O: Sink>(output: &mut O, bytes: &[u8]) -> Result<(), PutFault>
-    ensures bytes { OnOk result (PutsInto (O.written output.old) (O.written output.new) bytes.now) }
+    ensures bytes { OnOk result (PutsInto (O.state output.old) (O.state output.new) bytes.now) }
 
     // Less than the whole was written.
-    ensures front { OnErr result (PutsFront (O.written output.old) (O.written output.new) bytes.now) }
+    ensures prefix { OnErr result (PutsPrefix (O.state output.old) (O.state output.new) bytes.now) }
 
     // The count of faults rose exactly where `Failed` is answered.
-    ensures later { O.faults output.old ≤ O.faults output.new }
-    ensures cause { CountsPut (O.faults output.old) (O.faults output.new) result }
+    ensures later { (O.state output.old).faults ≤ (O.state output.new).faults }
+    ensures cause { CountsPut (O.state output.old) (O.state output.new) result }
 {
     let mut at = 0;
     while at < bytes.len() {

@@ -1,4 +1,4 @@
--- Fronts of a list all of whose members pass a test.
+-- Prefixes of a list all of whose members pass a test.
 use Rattle.std.proofs.Common.{◌≡◌, ℕ, zero, suc, ◌+◌, ◌≤◌, Bool, true, false, cond, ◌||◌, ◌==◌, List, [], ◌∷◌, ◌++◌, length, take, arith, subst, refl}
 use Rattle.std.specs.List.{AllByRecursion, prefix_len}
 use Rattle.kumir_lexer.specs.Classes.{is_digit, in_word, begins_word, begins, IsDigits, marks_exponent, is_plus_or_minus}
@@ -18,12 +18,12 @@ prefix_longest p xs zero h a = omega arith
 prefix_longest p [] (suc m) h a = h
 prefix_longest p (x ∷ xs) (suc m) h a = let i : m ≤ length xs = omega arith in rw a.0 (omega (arith, prefix_longest p xs m i a.1))
 
--- a front that passes, whatever follows
+-- a prefix that passes, whatever follows
 pub prefix_at_least : (p : ℕ → Bool) (xs rest : List ℕ) → AllByRecursion (λ d. p d ≡ true) xs → length xs ≤ prefix_len p (xs ++ rest)
 prefix_at_least p [] rest a = omega arith
 prefix_at_least p (x ∷ xs) rest a = rw a.0 (omega (arith, prefix_at_least p xs rest a.1))
 
--- a front that passes up to a member that does not
+-- a prefix that passes up to a member that does not
 pub prefix_exact : (p : ℕ → Bool) (xs : List ℕ) (c : ℕ) (rest : List ℕ) → AllByRecursion (λ d. p d ≡ true) xs → p c ≡ false → prefix_len p (xs ++ c ∷ rest) ≡ length xs
 prefix_exact p [] c rest a e = rw e refl
 prefix_exact p (x ∷ xs) c rest a e = rw a.0 (omega (arith, prefix_exact p xs c rest a.1 e))

@@ -6,6 +6,6 @@ pub mod Values
 pub mod Steps
 pub mod Names
 pub mod Encoded
-pub mod Only
-pub mod Unique
-pub mod Some
+pub mod OneToken
+pub mod OneCutting
+pub mod SomeCutting

@@ -1,4 +1,4 @@
--- Which token is the longest at a front.
+-- Which prefix is the longest token.
 use Rattle.std.proofs.Common.{◌≡◌, ℕ, zero, suc, ◌<◌, ◌≤◌, Bool, true, false, cond, ◌&&◌, not, nat_le, List, [], ◌∷◌, ◌++◌, length, take, drop, get_or, arith, sym, subst, ◌∙◌, refl, ap}
 use Rattle.std.specs.Prelude.{is_some}
 use Rattle.std.specs.List.{prefix_len}
@@ -7,7 +7,7 @@ use Rattle.kumir_lexer.specs.declared.cutting.Class.{Class}
 use Rattle.kumir_lexer.specs.declared.cutting.Class.TheVariants.{Word, Number, Real, Literal, Sign}
 use Rattle.kumir_lexer.specs.Spelling.{sign_of}
 use Rattle.kumir_lexer.specs.Classes.{is_digit, is_quote, in_word, begins, IsDigits, IsReal, pointed, pointed_and_scaled, scaled, HasShape, is_word, Stands, Longest, NoneStands}
-use Rattle.kumir_lexer.specs.Fronts.{real_len, literal_len, sign_len}
+use Rattle.kumir_lexer.specs.Prefixes.{real_len, literal_len, sign_len}
 use Rattle.kumir_lexer.proofs.Digits.{prefix_fits, prefix_passes, prefix_longest, begins_in_word, digits_pass}
 use Rattle.kumir_lexer.proofs.Reals.{real_ok, real_at_least}
 use Rattle.kumir_lexer.proofs.Marks.{both_true, literal_ok, literal_exact, sign_text, is_sign_text}
@@ -112,19 +112,19 @@ longest_word_at named (c ∷ cs) n x l e h p = subst (Longest named Word (c ∷ 
 
 -- ---- the other classes, where no word begins
 
-front : (text : List ℕ) (m : ℕ) → take m text ++ drop m text ≡ text
-front text m = take-append-drop m text
+prefix : (text : List ℕ) (m : ℕ) → take m text ++ drop m text ≡ text
+prefix text m = take-append-drop m text
 
 number_limit : (text : List ℕ) (m : ℕ) → m ≤ length text → IsDigits (take m text) → m ≤ prefix_len is_digit text
 number_limit text m l h = prefix_longest is_digit text m l (digits_pass _ h)
 
 real_limit : (text : List ℕ) (m : ℕ) → m ≤ length text → IsReal (take m text) → m ≤ real_len text
 real_limit text m l h =
-    let more : length (take m text) ≤ real_len text = subst (λ u. length (take m text) ≤ real_len u) (front text m) (real_at_least (take m text) h (drop m text)) in
+    let more : length (take m text) ≤ real_len text = subst (λ u. length (take m text) ≤ real_len u) (prefix text m) (real_at_least (take m text) h (drop m text)) in
     omega (arith, more, length-take-le m text l)
 
 literal_limit : (text : List ℕ) (m : ℕ) → m ≤ length text → HasShape Literal (take m text) → m ≤ literal_len text
-literal_limit text m l h = let e = literal_exact (take m text) h (drop m text) in let e' : length (take m text) ≡ literal_len text = e ∙ ap literal_len (front text m) in omega (arith, e', length-take-le m text l)
+literal_limit text m l h = let e = literal_exact (take m text) h (drop m text) in let e' : length (take m text) ≡ literal_len text = e ∙ ap literal_len (prefix text m) in omega (arith, e', length-take-le m text l)
 
 pub digit_is_no_quote : (c : ℕ) → is_digit c ≡ true → is_quote c ≡ true → ⊥
 digit_is_no_quote c d q = grind arith

@@ -1,4 +1,4 @@
--- Literals and signs at a front.
+-- Prefixes that are literals and signs.
 use Rattle.std.proofs.Common.{◌≡◌, ℕ, suc, ◌+◌, ◌<◌, ◌≤◌, Bool, true, false, cond, ◌&&◌, not, nat_lt, List, [], ◌∷◌, ◌++◌, length, take, get_or, map, Some, arith, sym, subst, ◌∙◌, refl, ap, append_assoc, length-append}
 use Rattle.std.specs.Prelude.{is_some}
 use Rattle.std.specs.List.{AllByRecursion, prefix_len}
@@ -8,7 +8,7 @@ use Rattle.kumir_lexer.specs.declared.spelling.TheConstants.{SIGNS}
 use Rattle.kumir_lexer.specs.declared.cutting.Class.TheVariants.{Literal}
 use Rattle.kumir_lexer.specs.Spelling.{meaning, sign_of}
 use Rattle.kumir_lexer.specs.Classes.{is_digit, is_quote, HasShape}
-use Rattle.kumir_lexer.specs.Fronts.{literal_len}
+use Rattle.kumir_lexer.specs.Prefixes.{literal_len}
 use Rattle.kumir_lexer.proofs.Digits.{prefix_passes, prefix_exact}
 use Rattle.std.proofs.lemmas.List.{take_more}
 use Rattle.std.proofs.lemmas.List.Sums.{prefix_len_stops}

@@ -1,9 +1,9 @@
--- The longest real at a front.
+-- The longest prefix that is a real.
 use Rattle.std.proofs.Common.{◌≡◌, ℕ, zero, suc, ◌+◌, ◌≤◌, true, false, cond, ◌==◌, List, [], ◌∷◌, ◌++◌, length, take, drop, arith, sym, subst, ◌∙◌, refl, ap, append_assoc, length-append}
 use Rattle.std.proofs.Math.Seq.{take-add, drop-append_seam}
 use Rattle.std.specs.List.{prefix_len}
 use Rattle.kumir_lexer.specs.Classes.{is_digit, IsDigits, IsExponent, unsigned, signed, IsReal, pointed, pointed_and_scaled, scaled, marks_exponent, is_plus_or_minus}
-use Rattle.kumir_lexer.specs.Fronts.{with_digits, sign_width, exponent_len, fraction_len, scale_len, real_len}
+use Rattle.kumir_lexer.specs.Prefixes.{with_digits, sign_width, exponent_len, fraction_len, scale_len, real_len}
 use Rattle.kumir_lexer.proofs.Digits.{prefix_passes, prefix_fits, prefix_at_least, prefix_exact, digits_pass, digits_some, digits_from, mark_is_no_digit, mark_is_no_point, digit_is_no_sign}
 use Rattle.std.proofs.lemmas.List.{length-take-le}
 
@@ -18,7 +18,7 @@ pub some_from : (n : ℕ) → (n == 0) ≡ false → 1 ≤ n
 some_from zero e = absurd (let none : ⊥ = cc in none)
 some_from (suc n) e = omega arith
 
--- ---- whatever follows, the front is no shorter
+-- ---- whatever follows, the prefix is no shorter
 
 digits_are_unsigned : (ds rest : List ℕ) → IsDigits ds → sign_width (ds ++ rest) ≡ 0
 digits_are_unsigned [] rest h = absurd h
@@ -81,10 +81,10 @@ real_at_least t (pointed_and_scaled ds es xs h g x) rest =
 real_at_least t (scaled ds xs h x) rest =
     rw (append_assoc ds xs rest) (omega (arith, real_scaled ds xs rest h x, length-append ds xs))
 
--- ---- what stands at the front is a real
+-- ---- the prefix is a real
 
-front_digits : (cs : List ℕ) → 1 ≤ prefix_len is_digit cs → IsDigits (take (prefix_len is_digit cs) cs)
-front_digits cs h = digits_from _ (omega (arith, length-take-le (prefix_len is_digit cs) cs (prefix_fits is_digit cs))) (prefix_passes is_digit cs)
+prefix_digits : (cs : List ℕ) → 1 ≤ prefix_len is_digit cs → IsDigits (take (prefix_len is_digit cs) cs)
+prefix_digits cs h = digits_from _ (omega (arith, length-take-le (prefix_len is_digit cs) cs (prefix_fits is_digit cs))) (prefix_passes is_digit cs)
 
 fraction_ok : (text : List ℕ) → 1 ≤ fraction_len text → (es : List ℕ) × IsDigits es × (take (fraction_len text) text ≡ 46 ∷ es)
 fraction_ok [] h = absurd (omega arith)
@@ -94,7 +94,7 @@ fraction_ok (c ∷ cs) h =
           let d : 1 ≤ prefix_len is_digit cs = with_none 1 _ some in
           let is : c ≡ 46 = grind arith in
           let n : with_digits 1 (prefix_len is_digit cs) ≡ suc (prefix_len is_digit cs) = with_some 1 _ d ∙ (omega arith) in
-          (take (prefix_len is_digit cs) cs, front_digits cs d, rw (n, is) refl)
+          (take (prefix_len is_digit cs) cs, prefix_digits cs d, rw (n, is) refl)
       | false ↦ λ e some. absurd (omega arith)
     ] refl h
 
@@ -105,11 +105,11 @@ exponent_ok_behind c (s ∷ cs) m h =
       | true ↦ λ e some.
           let d : 1 ≤ prefix_len is_digit cs = with_none 2 _ some in
           let n : with_digits 2 (prefix_len is_digit cs) ≡ suc (suc (prefix_len is_digit cs)) = with_some 2 _ d ∙ (omega arith) in
-          subst (λ k. IsExponent (take k (c ∷ s ∷ cs))) (sym n) (signed m e (front_digits cs d))
+          subst (λ k. IsExponent (take k (c ∷ s ∷ cs))) (sym n) (signed m e (prefix_digits cs d))
       | false ↦ λ e some.
           let d : 1 ≤ prefix_len is_digit (s ∷ cs) = with_none 1 _ some in
           let n : with_digits 1 (prefix_len is_digit (s ∷ cs)) ≡ suc (prefix_len is_digit (s ∷ cs)) = with_some 1 _ d ∙ (omega arith) in
-          subst (λ k. IsExponent (take k (c ∷ s ∷ cs))) (sym n) (unsigned m (front_digits (s ∷ cs) d))
+          subst (λ k. IsExponent (take k (c ∷ s ∷ cs))) (sym n) (unsigned m (prefix_digits (s ∷ cs) d))
     ] refl h
 
 exponent_ok : (text : List ℕ) → 1 ≤ exponent_len text → IsExponent (take (exponent_len text) text)
@@ -131,9 +131,9 @@ scale_by (suc f) zero ds text h e g some =
     rw (one, found.2) (pointed ds found.0 h found.1)
 scale_by (suc f) (suc x) ds text h e g some =
     let found = fraction_ok text (omega (arith, e)) in
-    let front : take (suc f) text ≡ 46 ∷ found.0 = ap (λ k. take k text) e ∙ found.2 in
+    let prefix : take (suc f) text ≡ 46 ∷ found.0 = ap (λ k. take k text) e ∙ found.2 in
     let more : 1 ≤ exponent_len (drop (suc f) text) = omega (arith, g) in
-    rw (take-add (suc f) (suc x) text, front) (subst (λ k. IsReal (ds ++ 46 ∷ (found.0 ++ take k (drop (suc f) text)))) (sym g) (pointed_and_scaled ds found.0 _ h found.1 (exponent_ok (drop (suc f) text) more)))
+    rw (take-add (suc f) (suc x) text, prefix) (subst (λ k. IsReal (ds ++ 46 ∷ (found.0 ++ take k (drop (suc f) text)))) (sym g) (pointed_and_scaled ds found.0 _ h found.1 (exponent_ok (drop (suc f) text) more)))
 
 pub real_ok : (text : List ℕ) → 1 ≤ prefix_len is_digit text → 1 ≤ real_len text → IsReal (take (real_len text) text)
 real_ok text digits h =
@@ -143,5 +143,5 @@ real_ok text digits h =
       | true ↦ λ e some. absurd (omega arith)
       | false ↦ λ e some.
           let more : 1 ≤ scale_len rest = some_from (scale_len rest) e in
-          rw (take-add n (scale_len rest) text) (scale_by (fraction_len rest) _ (take n text) rest (front_digits text digits) refl refl more)
+          rw (take-add n (scale_len rest) text) (scale_by (fraction_len rest) _ (take n text) rest (prefix_digits text digits) refl refl more)
     ] refl h

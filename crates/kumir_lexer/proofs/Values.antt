@@ -12,8 +12,8 @@ grows : (n : ℕ) (ds : List ℕ) → n ≤ fold digit_behind n ds
 grows n [] = omega arith
 grows n (d ∷ ds) = omega (arith, grows (10 * n + (d - 48)) ds)
 
-front_value : (i : ℕ) (ds : List ℕ) → value (take i ds) ≤ value ds
-front_value i ds =
+prefix_value : (i : ℕ) (ds : List ℕ) → value (take i ds) ≤ value ds
+prefix_value i ds =
     let all : value ds ≡ fold digit_behind (value (take i ds)) (drop i ds) = ap value (sym (take-append-drop i ds)) ∙ fold-append digit_behind 0 (take i ds) (drop i ds) in
     omega (arith, all, grows (value (take i ds)) (drop i ds))
 
@@ -22,4 +22,4 @@ pub next_value : (ds : List ℕ) (i n x : ℕ) → i < length ds → x ≡ get_o
 next_value ds i n x lt is e =
     let more : value (take (i + 1) ds) ≡ 10 * value (take i ds) + (get_or ds i x - 48) = ap value (take_more ds i x lt) ∙ fold-append digit_behind 0 (take i ds) (get_or ds i x ∷ []) in
     let same : 10 * n + (x - 48) ≡ 10 * value (take i ds) + (get_or ds i x - 48) = ap (λ k. 10 * k + (x - 48)) e ∙ ap (λ k. 10 * value (take i ds) + (k - 48)) is in
-    omega (arith, more, same, front_value (i + 1) ds)
+    omega (arith, more, same, prefix_value (i + 1) ds)

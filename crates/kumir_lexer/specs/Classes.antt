@@ -93,11 +93,11 @@ IsMember named class text = (starts_word named text ≡ is_word class) × HasSha
 abbrev pub Stands : Bool → Class → List ℕ → ℕ → Type 0
 Stands named class text n = (n ≤ length text) × IsMember named class (take n text)
 
--- they are the longest token that stands at the front
+-- they are the longest token that is a prefix
 pub record Longest (named : Bool) (class : Class) (text : List ℕ) (n : ℕ) : Type 0 where
   pub stands : Stands named class text n
   pub longest : (other : Class) (m : ℕ) → Stands named other text m → m ≤ n
 
--- no token stands at the front
+-- no token is a prefix
 abbrev pub NoneStands : Bool → List ℕ → Type 0
 NoneStands named text = (class : Class) (n : ℕ) → Stands named class text n → ⊥

@@ -1,8 +1,9 @@
--- The cutting of a line: which tokens it has, and its first fault. A line is the list of its characters.
+-- The cutting of a line, its tokenization: which tokens it has, and its first fault. A line is the list of its characters.
 use Rattle.std.specs.Prelude.{◌≡◌, ℕ, ◌-◌, ◌<◌, ◌≤◌, ◌⊎◌, pos, Bool, true, false, ◌||◌, ◌==◌, if◌then◌else◌, List, [], ◌∷◌, ◌++◌, length, take, drop, slice_index, slice_range, Option, Some, None, codes}
 use Rattle.kumir_tree.specs.declared.token.Token.{Token}
 use Rattle.kumir_tree.specs.declared.token.Token.TheVariants as token
 use Rattle.kumir_tree.specs.declared.token.Spanned.{Spanned}
+use Rattle.kumir_tree.specs.declared.fault_codes.TheConstants.{BAD_CHARACTER, OPEN_LITERAL, NUMBER_TOO_LARGE, REAL}
 use Rattle.kumir_lexer.specs.Spelling.{is_text, key_of, sign_of}
 use Rattle.kumir_lexer.specs.Classes.{is_blank, begins_comment, value, Longest, NoneStands}
 use Rattle.kumir_lexer.specs.Joined.{joined}
@@ -27,17 +28,17 @@ Spells class text other = ⊥
 
 -- a text of the class is a fault with this code: a number too large, or what belongs to reals
 abbrev pub IsRefused : Class → List ℕ → ℕ → Type 0
-IsRefused Word text code = (names_reals text ≡ true) × (code ≡ 104)
-IsRefused Number text code = (2147483647 < value text) × (code ≡ 103)
-IsRefused Real text code = code ≡ 104
+IsRefused Word text code = (names_reals text ≡ true) × (code ≡ REAL)
+IsRefused Number text code = (2147483647 < value text) × (code ≡ NUMBER_TOO_LARGE)
+IsRefused Real text code = code ≡ REAL
 IsRefused Literal text code = ⊥
 IsRefused Sign text code = ⊥
 
 -- the fault of a character at which no token stands: an open literal, a division sign, a bad character
 abbrev pub bad_code : ℕ → ℕ
-bad_code c = if c == 34 then 102 else (if c == 47 then 104 else 101)
+bad_code c = if c == 34 then OPEN_LITERAL else (if c == 47 then REAL else BAD_CHARACTER)
 
--- at the front of the text is a fault with this code
+-- a prefix of the text is a fault with this code
 abbrev pub IsFaulty : Bool → List ℕ → ℕ → Type 0
 IsFaulty named text code =
     (NoneStands named text × (code ≡ bad_code (slice_index text 0)))

@@ -2,6 +2,6 @@ pub mod Spelling
 pub mod Joined
 pub mod Classes
 pub mod Cutting
-pub mod Fronts
+pub mod Prefixes
 pub mod Steps
 pub mod Printed

@@ -1,4 +1,4 @@
-//! What stands in a line.
+//! What stands in a line, step by step of its tokenization.
 
 ghost use Rattle.std.specs.Prelude.{◌≡◌, ◌≤◌, ◌<◌, ℕ, pos, length, drop, true, false, ◌||◌, IfOk, IfSome, IfNone, is_some, slice_index};
 ghost use Rattle.kumir_lexer.specs.Classes.{value, HasShape, Longest, NoneStands, begins_comment, is_blank};
@@ -6,11 +6,12 @@ ghost use Rattle.kumir_lexer.specs.Cutting as cutting;
 ghost use Rattle.kumir_lexer.specs.declared.cutting.Class.TheVariants as class;
 ghost use Rattle.kumir_lexer.specs.Steps.{IsReading, IsStep};
 
-use crate::fronts::{
+use crate::prefixes::{
     begins, begins_comment, digits_len, is_blank, is_digit, is_quote, literal_len, real_len,
     sign_len, word_len,
 };
 use crate::spelling::{key_of, sign_of};
+use kumir_tree::fault_codes::{BAD_CHARACTER, NUMBER_TOO_LARGE, OPEN_LITERAL, REAL};
 use kumir_tree::{Chars, Name, Spanned, Token, Tokens};
 use std::alloc::{AllocError, Global};
 
@@ -55,7 +56,7 @@ pub enum Step {
 /// The greatest number that a program can write.
 const GREATEST_NUMBER: u64 = 2_147_483_647;
 
-/// The longest token at the front of the text. `named` says that the token before is a word that is no keyword.
+/// The longest token that is a prefix of the text. `named` says that the token before is a word that is no keyword.
 pub fn longest(named: bool, text: &[char]) -> Option<(Class, usize)>
     requires { 1 ≤ length text.now }
     ensures some { IfSome result (λ found. Longest named found.0 text.now found.1) }
@@ -116,7 +117,7 @@ fn read_word(alloc: Global, word: &[char]) -> Result<Reading, AllocError>
         return Ok(Reading::Token(Token::Key(key)));
     }
     if names_reals(word) {
-        return Ok(Reading::Fault(104));
+        return Ok(Reading::Fault(REAL));
     }
     let name = Name::from_vec(Vec::from_slice(alloc, word)?);
     Ok(Reading::Token(Token::Named(name)))
@@ -136,7 +137,7 @@ fn read_number(text: &[char]) -> Reading
 {
     match number_of(text) {
         Some(number) => Reading::Token(Token::Number(number)),
-        None => Reading::Fault(103),
+        None => Reading::Fault(NUMBER_TOO_LARGE),
     }
 }
 
@@ -157,7 +158,7 @@ fn read(alloc: Global, class: Class, text: &[char]) -> Result<Reading, AllocErro
     match class {
         Class::Word => read_word(alloc, text),
         Class::Number => Ok(read_number(text)),
-        Class::Real => Ok(Reading::Fault(104)),
+        Class::Real => Ok(Reading::Fault(REAL)),
         Class::Literal => read_literal(alloc, text),
         Class::Sign => Ok(read_sign(text)),
     }
@@ -167,9 +168,9 @@ fn bad_code(c: char) -> u16
     ensures { result ≡ cutting.bad_code c }
 {
     match c {
-        '"' => 102,
-        '/' => 104,
-        _ => 101,
+        '"' => OPEN_LITERAL,
+        '/' => REAL,
+        _ => BAD_CHARACTER,
     }
 }
 

@@ -1,9 +1,9 @@
-//! The one cutting of a line into tokens.
+//! The one cutting of a line into tokens: its tokenization.
 #![tactic(auto)]
 
 mod cutting;
-mod fronts;
 mod line;
+mod prefixes;
 mod print;
 mod spelling;
 

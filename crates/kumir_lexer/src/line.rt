@@ -1,4 +1,4 @@
-//! The tokens of a whole line.
+//! The tokens of a whole line: its cutting, or tokenization.
 
 ghost use Rattle.std.specs.Prelude.{◌≡◌, ◌<◌, ◌≤◌, ◌++◌, ◌∷◌, [], ℕ, List, Option, length, false, IfOk, OnOk};
 ghost use Rattle.std.specs.Str.{chars};
@@ -10,7 +10,7 @@ ghost use Rattle.kumir_tree.specs.declared.token.Token.TheVariants as token;
 ghost use Rattle.kumir_lexer.specs.declared.cutting.LexFault.{LexFault};
 
 use crate::cutting::{LexFault, LineTokens, Step, next_step};
-use crate::fronts::{begins_comment, is_blank};
+use crate::prefixes::{begins_comment, is_blank};
 use km_base::Memory;
 use kumir_tree::{Name, Spanned, Token, Tokens};
 use sqlite_items::Items;

@@ -1,6 +1,6 @@
-pub mod Courses
-pub mod Begun
-pub mod Onward
-pub mod Calls
-pub mod Moving
-pub mod Existing
+pub mod CoursesAreRuns
+pub mod NewMachine
+pub mod StepsThenAnswer
+pub mod OneCall
+pub mod LocalTargets
+pub mod RunsExist

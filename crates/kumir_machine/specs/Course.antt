@@ -10,23 +10,23 @@ use Rattle.performer_kit.specs.declared.commands.Reply.TheVariants as reply
 use Rattle.kumir_values.specs.declared.value.Value.{Value}
 use Rattle.kumir_values.specs.declared.run_end.EndKind.{EndKind}
 use Rattle.kumir_values.specs.declared.run_end.EndKind.TheVariants as end_kind
-use Rattle.kumir_meaning.specs.Runs.{Act, Printed, Sent, RunState, Trace, end_of}
+use Rattle.kumir_meaning.specs.Runs.{Act, Printed, Sent, RunState, Trace, end_of, IsPrefix}
 use Rattle.kumir_meaning.specs.Runs as state
-use Rattle.stack_code.specs.Instructions.{is_test}
-use Rattle.stack_code.specs.CodeRuns.{CodeRun, Begins}
+use Rattle.performer_kit.specs.Commands.{is_test}
+use Rattle.stack_code.specs.CodeRuns.{CodeRun}
 use Rattle.stack_code.specs.Validity.{ValidCode}
 use Rattle.kumir_machine.specs.declared.answer.Advanced.{Advanced}
 use Rattle.kumir_machine.specs.declared.answer.Advanced.TheVariants as answer
 
 -- how a machine stands
-pub data Stands : Type 0 where
+pub data Condition : Type 0 where
   -- the run goes on
-  Free : Stands
+  Free : Condition
   -- the reply to this command is owed
-  Owes : Command → Stands
-  Over : EndKind → Stands
+  Owes : Command → Condition
+  Over : EndKind → Condition
   -- memory was wanted
-  Failed : Stands
+  Failed : Condition
 
 pub record Course : Type 0 where
   pub code : ValidCode
@@ -37,7 +37,7 @@ pub record Course : Type 0 where
   -- the Robot's replies given
   pub replies : List Reply
   pub answers : List Advanced
-  pub stands : Stands
+  pub condition : Condition
 
 -- ---- the run that it is the course of
 
@@ -61,9 +61,9 @@ pub record RunsTo (c : Course) (steps : ℕ) (trace : Trace) : Type 0 where
 abbrev pub so_far : Course → RunState → Trace
 so_far c state = record { acts = acts_in c.answers; state = state }
 
--- the acts answered begin those of the run within the steps taken, and within more steps
-abbrev pub HasBegun : Course → Type 0
-HasBegun c = (n : ℕ) (t : Trace) → c.steps ≤ n → RunsTo c n t → Begins (acts_in c.answers) t.acts
+-- the acts answered are a prefix of those of the run within the steps taken, and within more steps
+abbrev pub IsPrefixOfRun : Course → Type 0
+IsPrefixOfRun c = (n : ℕ) (t : Trace) → c.steps ≤ n → RunsTo c n t → IsPrefix (acts_in c.answers) t.acts
 
 -- they are all of the acts of the run within the steps taken, which stands so after them
 abbrev pub IsWhole : RunState → Course → Type 0
@@ -77,17 +77,17 @@ IsSpent end c = end ≡ end_kind.Steps → c.steps ≡ c.budget
 abbrev pub HasEnded : EndKind → Course → Type 0
 HasEnded end c = (state : RunState) × (end_of state ≡ Some end) × IsSpent end c × ((n : ℕ) → c.steps ≤ n → n ≤ c.budget → RunsTo c n (so_far c state))
 
--- what holds at each moment
+-- what holds of each course
 pub record IsLawful (c : Course) : Type 0 where
   pub within : c.steps ≤ c.budget
-  pub begun : HasBegun c
-  pub awaits : (command : RobotCommand) → c.stands ≡ Owes (Robot command) → IsWhole state.Awaiting c
-  pub over : (end : EndKind) → c.stands ≡ Over end → HasEnded end c
+  pub begun : IsPrefixOfRun c
+  pub awaits : (command : RobotCommand) → c.condition ≡ Owes (Robot command) → IsWhole state.Awaiting c
+  pub over : (end : EndKind) → c.condition ≡ Over end → HasEnded end c
 
 -- ---- one call
 
 -- how it stands after an answer
-abbrev pub after : Advanced → Stands → Stands
+abbrev pub after : Advanced → Condition → Condition
 after (answer.Out text) s = Free
 after (answer.Command command) s = Owes command
 after answer.AwaitReply s = s
@@ -97,13 +97,13 @@ after answer.Memory s = Failed
 
 -- only the answer, how it stands then, and the steps are another
 abbrev pub advanced : Course → Advanced → ℕ → Course
-advanced c a steps = record c { steps = steps; answers = c.answers ++ a ∷ []; stands = after a c.stands }
+advanced c a steps = record c { steps = steps; answers = c.answers ++ a ∷ []; condition = after a c.condition }
 
 -- where the run does not go on, the answer is this, and no step is taken
 abbrev pub Stays : Course → Advanced → ℕ → Type 0
-Stays c a steps = stays c.stands
+Stays c a steps = stays c.condition
   where
-    stays : Stands → Type 0
+    stays : Condition → Type 0
     stays Free = a ≡ answer.AwaitReply → ⊥
     stays (Owes command) = (a ≡ answer.AwaitReply) × (steps ≡ c.steps)
     stays (Over end) = (a ≡ answer.Ended end) × (steps ≡ c.steps)
@@ -114,17 +114,17 @@ abbrev pub most_within : Course → ℕ → ℕ
 most_within c most = if nat_le (c.steps + most) c.budget then c.steps + most else c.budget
 
 -- what comes next in the run within n steps, behind the acts answered so far
-abbrev pub ComesNext : Course → ℕ → Trace → Advanced → Type 0
-ComesNext c n t (answer.Out text) = (more : List Act) × (t.acts ≡ acts_in c.answers ++ Printed text ∷ more)
-ComesNext c n t (answer.Command command) = (more : List Act) × (t.acts ≡ acts_in c.answers ++ Sent command ∷ more)
-ComesNext c n t answer.AwaitReply = ⊥
-ComesNext c n t answer.Paused = (t ≡ so_far c state.Going) × (n < c.budget)
-ComesNext c n t (answer.Ended end) = (t.acts ≡ acts_in c.answers) × (end_of t.state ≡ Some end) × (t.state ≡ state.Going → n ≡ c.budget)
-ComesNext c n t answer.Memory = Unit {0}
+abbrev pub FollowsWithin : Course → ℕ → Trace → Advanced → Type 0
+FollowsWithin c n t (answer.Out text) = (more : List Act) × (t.acts ≡ acts_in c.answers ++ Printed text ∷ more)
+FollowsWithin c n t (answer.Command command) = (more : List Act) × (t.acts ≡ acts_in c.answers ++ Sent command ∷ more)
+FollowsWithin c n t answer.AwaitReply = ⊥
+FollowsWithin c n t answer.Paused = (t ≡ so_far c state.Going) × (n < c.budget)
+FollowsWithin c n t (answer.Ended end) = (t.acts ≡ acts_in c.answers) × (end_of t.state ≡ Some end) × (t.state ≡ state.Going → n ≡ c.budget)
+FollowsWithin c n t answer.Memory = Unit {0}
 
 -- where the run goes on, the answer is what comes next within the steps that the call allows
-abbrev pub IsNext : Course → ℕ → Advanced → Type 0
-IsNext c most a = c.stands ≡ Free → (t : Trace) → RunsTo c (most_within c most) t → ComesNext c (most_within c most) t a
+abbrev pub AnswersNext : Course → ℕ → Advanced → Type 0
+AnswersNext c most a = c.condition ≡ Free → (t : Trace) → RunsTo c (most_within c most) t → FollowsWithin c (most_within c most) t a
 
 -- each step taken was needed: within fewer steps from those taken before on, the run has the acts answered so far alone, and needs one more
 abbrev pub NeedsAll : Course → ℕ → Type 0
@@ -132,7 +132,7 @@ NeedsAll c steps = (n : ℕ) → c.steps ≤ n → n < steps → RunsTo c n (so_
 
 -- ---- replies
 
-abbrev pub owes : Stands → Bool
+abbrev pub owes : Condition → Bool
 owes Free = false
 owes (Owes command) = true
 owes (Over end) = false
@@ -171,14 +171,14 @@ CanHave (Pen (pen.By dx dy)) (reply.Drawn segment) = Unit {0}
 CanHave (Pen pen.Raise) (reply.Drawn segment) = ⊥
 CanHave (Pen pen.Lower) (reply.Drawn segment) = ⊥
 
-abbrev pub IsOwed : Stands → Reply → Type 0
+abbrev pub IsOwed : Condition → Reply → Type 0
 IsOwed Free r = ⊥
 IsOwed (Owes command) r = CanHave command r
 IsOwed (Over end) r = ⊥
 IsOwed Failed r = ⊥
 
 -- the replies of the Robot with one more, if it is the Robot's
-abbrev pub replies_with : List Reply → Stands → Reply → List Reply
+abbrev pub replies_with : List Reply → Condition → Reply → List Reply
 replies_with replies Free r = replies
 replies_with replies (Owes (Robot command)) r = replies ++ r ∷ []
 replies_with replies (Owes (Pen command)) r = replies
@@ -187,8 +187,8 @@ replies_with replies Failed r = replies
 
 -- the reply is there, and the run goes on
 abbrev pub replied : Course → Reply → Course
-replied c r = record c { replies = replies_with c.replies c.stands r; stands = Free }
+replied c r = record c { replies = replies_with c.replies c.condition r; condition = Free }
 
 -- the course of a machine that was just made
 abbrev pub begun : ValidCode → List Value → ℕ → Course
-begun code inputs budget = record { code = code; inputs = inputs; budget = budget; steps = 0; replies = []; answers = []; stands = Free }
+begun code inputs budget = record { code = code; inputs = inputs; budget = budget; steps = 0; replies = []; answers = []; condition = Free }

@@ -1,4 +1,4 @@
 pub mod Course
-pub mod Going
-pub mod Standing
+pub mod ActiveRuns
+pub mod Phases
 pub mod Laws

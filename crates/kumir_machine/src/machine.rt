@@ -1,13 +1,12 @@
 //! The machine.
 ghost use Rattle.std.specs.Prelude.{◌≡◌, ◌≤◌, ◌+◌, Some, IfOk};
 ghost use Rattle.std.specs.Arc.{arc_value};
-ghost use Rattle.kumir_machine.specs.Course.{Course, begun, owes, IsOwed, replied, advanced, Stays, IsNext, NeedsAll, IsWhole, IsLawful};
+ghost use Rattle.kumir_machine.specs.Course.{Course, begun, owes, IsOwed, replied, advanced, Stays, AnswersNext, NeedsAll, IsWhole, IsLawful};
 ghost use Rattle.kumir_meaning.specs.Runs as state;
-ghost use Rattle.kumir_values.specs.declared.run_end.EndKind.TheVariants as end;
 ghost use Rattle.kumir_machine.specs.declared.answer.Advanced.TheVariants as answer;
 
+use crate::active::{ActiveRun, Phase, move_on};
 use crate::answer::Advanced;
-use crate::going::{Going, Phase, move_on};
 use km_base::{Memory, Noted};
 use kumir_values::Values;
 use machine_steps::begin_run;
@@ -21,7 +20,7 @@ use std::sync::Arc;
 #[derive(Drop)]
 pub struct Machine {
     code: Arc<Code>,
-    going: Going,
+    run: ActiveRun,
     budget: u32,
     /// The Robot's replies, which take no bytes.
     replies: Noted<Reply>,
@@ -32,13 +31,13 @@ pub struct Machine {
 impl Model for Machine {
     ghost use Rattle.std.specs.Arc.{arc_value};
     ghost use Rattle.kumir_machine.specs.Course.{Course};
-    ghost use Rattle.kumir_machine.specs.Standing.{course_of, IsMachine};
+    ghost use Rattle.kumir_machine.specs.Phases.{course_of, IsMachine};
 
     ghost Value = { Course };
 
-    ghost view = { λ m. course_of (arc_value m.code) m.budget m.going m.replies m.answers };
+    ghost view = { λ m. course_of (arc_value m.code) m.budget m.run m.replies m.answers };
 
-    ghost invariant = { λ m. IsMachine (course_of (arc_value m.code) m.budget m.going m.replies m.answers) m.going };
+    ghost invariant = { λ m. IsMachine (course_of (arc_value m.code) m.budget m.run m.replies m.answers) m.run };
 }
 
 impl Machine {
@@ -59,7 +58,7 @@ impl Machine {
         let stage = begin_run(alloc, code.units().as_slice(), entry, inputs)?;
         Ok(Machine {
             code,
-            going: Going {
+            run: ActiveRun {
                 stage,
                 steps: 0,
                 phase: Phase::Ready,
@@ -74,49 +73,50 @@ impl Machine {
     pub fn steps(&self) -> u32
         ensures { result ≡ self.now.steps }
     {
-        self.going.steps
+        self.run.steps
     }
 
     /// Whether the reply to a command is owed.
     pub fn awaits(&self) -> bool
-        ensures { result ≡ owes self.now.stands }
+        ensures { result ≡ owes self.now.condition }
     {
-        matches!(self.going.phase, Phase::OwesRobot(_) | Phase::OwesPen(_))
+        matches!(self.run.phase, Phase::OwesRobot(_) | Phase::OwesPen(_))
     }
 
     /// Gives the reply to the last command.
     pub fn give(&mut self, reply: Reply)
-        requires owed { IsOwed self.old.stands reply }
+        requires owed { IsOwed self.old.condition reply }
         ensures replied { self.new ≡ replied self.old reply }
         ensures lawful { IsLawful self.new }
     {
-        match self.going.phase {
+        match self.run.phase {
             Phase::OwesRobot(question) => {
                 self.replies.note(&reply);
-                self.going.phase = Phase::Replied(question, reply);
+                self.run.phase = Phase::Replied(question, reply);
             }
-            Phase::OwesPen(_) => self.going.phase = Phase::Ready,
+            Phase::OwesPen(_) => self.run.phase = Phase::Ready,
             Phase::Ready | Phase::Replied(_, _) | Phase::Over(_) | Phase::Failed => unreachable!(),
         }
     }
 
-    /// Goes on until there is something to answer, by at most so many steps.
+    /// Goes on until there is something to answer, by at most so many steps. An end for want of steps comes at the budget:
+    /// that follows from `advanced` and `lawful` (`budget_is_spent`). That a pause has all acts of the run so far follows
+    /// from `next`, as each run has a trace (`valid_code_has_a_trace`).
     pub fn advance(&mut self, alloc: Global, most_steps: u32) -> Advanced
         requires some { 1 ≤ most_steps }
         ensures advanced { self.new ≡ advanced self.old result self.new.steps }
         ensures stays { Stays self.old result self.new.steps }
-        ensures next { IsNext self.old most_steps result }
+        ensures next { AnswersNext self.old most_steps result }
         ensures exact { NeedsAll self.old self.new.steps }
         ensures lawful { IsLawful self.new }
         ensures rise { self.old.steps ≤ self.new.steps }
         ensures few { self.new.steps ≤ self.old.steps + most_steps }
         ensures paused { result ≡ answer.Paused → (self.new.steps ≡ self.old.steps + most_steps) × IsWhole state.Going self.new }
-        ensures spent { result ≡ answer.Ended end.Steps → self.new.steps ≡ self.new.budget }
     {
         let answer = move_on(
             alloc,
             self.code.units().as_slice(),
-            &mut self.going,
+            &mut self.run,
             self.budget,
             most_steps,
         );

@@ -1,13 +1,14 @@
 //! Code written by hand.
 ghost use Rattle.std.specs.Prelude.{◌≤◌};
 
+use code_samples::{body_of, on, program_of, unit_of};
 use kumir_tree::{Kind, Mode};
 use kumir_values::Value;
 use performer_kit::{PenShape, RobotCommand};
 use sqlite_items::Items;
 use stack_code::{
-    CallPlace, CallPlaces, CodeLine, CodeLines, CodeUnit, CodeUnits, CommandShape, Instruction,
-    ParamSlot, Shape,
+    CallPlace, CallPlaces, CodeLine, CodeUnit, CodeUnits, CommandShape, Instruction, ParamSlot,
+    Shape,
 };
 use std::alloc::{AllocError, Global};
 
@@ -28,52 +29,28 @@ fn robot(command: RobotCommand) -> Instruction {
 }
 
 /// A unit with these lines, and `Return` behind them on line 9.
-pub fn unit<const N: usize>(
-    alloc: Global,
-    lines: [(u32, Instruction); N],
-) -> Result<CodeUnit, AllocError>
+pub fn unit<const N: usize>(alloc: Global, lines: [CodeLine; N]) -> Result<CodeUnit, AllocError>
     requires { N ≤ 100 }
 {
-    let mut slots = Items::new(alloc);
-    for shape in SHAPES {
-        slots.push(shape)?;
-    }
-    let mut body: CodeLines = Items::new(alloc);
-    for (line, what) in lines {
-        body.push(CodeLine { line, what })?;
-    }
-    body.push(CodeLine {
-        line: 9,
-        what: Instruction::Return,
-    })?;
-    Ok(CodeUnit {
-        slots,
-        params: Items::new(alloc),
-        gives: None,
-        depth: 4,
-        body,
-    })
+    let mut body = body_of(alloc, lines)?;
+    body.push(on(9, Instruction::Return))?;
+    unit_of(alloc, &SHAPES, 4, body)
 }
 
 /// A program of one unit.
-pub fn alone<const N: usize>(
-    alloc: Global,
-    lines: [(u32, Instruction); N],
-) -> Result<CodeUnits, AllocError>
+pub fn alone<const N: usize>(alloc: Global, lines: [CodeLine; N]) -> Result<CodeUnits, AllocError>
     requires { N ≤ 100 }
 {
-    let mut units = Items::new(alloc);
-    units.push(unit(alloc, lines)?)?;
-    Ok(units)
+    program_of(alloc, unit(alloc, lines)?)
 }
 
 /// A program of two units: the second has one parameter.
 pub fn calling<const N: usize, const M: usize>(
     alloc: Global,
-    lines: [(u32, Instruction); N],
+    lines: [CodeLine; N],
     mode: Mode,
     slot: u32,
-    called: [(u32, Instruction); M],
+    called: [CodeLine; M],
 ) -> Result<CodeUnits, AllocError>
     requires first { N ≤ 100 }
     requires second { M ≤ 100 }
@@ -97,18 +74,18 @@ pub fn counting(alloc: Global, first: i32, last: i32, step: i32) -> Result<CodeU
     alone(
         alloc,
         [
-            (3, Instruction::Step),
-            (4, Instruction::Step),
-            (4, number(first)),
-            (4, number(last)),
-            (4, number(step)),
-            (4, Instruction::Turns(3)),
-            (4, Instruction::Step),
-            (4, Instruction::Next(3, Some(0), 12)),
-            (5, Instruction::Step),
-            (5, Instruction::Load(0)),
-            (5, Instruction::Out),
-            (5, Instruction::Jump(6)),
+            on(3, Instruction::Step),
+            on(4, Instruction::Step),
+            on(4, number(first)),
+            on(4, number(last)),
+            on(4, number(step)),
+            on(4, Instruction::Turns(3)),
+            on(4, Instruction::Step),
+            on(4, Instruction::Next(3, Some(0), 12)),
+            on(5, Instruction::Step),
+            on(5, Instruction::Load(0)),
+            on(5, Instruction::Out),
+            on(5, Instruction::Jump(6)),
         ],
     )
 }
@@ -118,10 +95,10 @@ pub fn endless(alloc: Global) -> Result<CodeUnits, AllocError> {
     alone(
         alloc,
         [
-            (3, Instruction::Step),
-            (3, Instruction::Push(Value::Truth(true))),
-            (3, Instruction::JumpNo(4)),
-            (3, Instruction::Jump(0)),
+            on(3, Instruction::Step),
+            on(3, Instruction::Push(Value::Truth(true))),
+            on(3, Instruction::JumpNo(4)),
+            on(3, Instruction::Jump(0)),
         ],
     )
 }
@@ -131,18 +108,18 @@ pub fn commanding(alloc: Global) -> Result<CodeUnits, AllocError> {
     alone(
         alloc,
         [
-            (3, Instruction::Step),
-            (3, Instruction::Step),
-            (3, robot(RobotCommand::RightFree)),
-            (3, Instruction::JumpNo(7)),
-            (4, Instruction::Step),
-            (4, Instruction::Step),
-            (4, robot(RobotCommand::Right)),
-            (6, Instruction::Step),
-            (6, number(3)),
-            (6, number(-4)),
-            (6, Instruction::Step),
-            (6, Instruction::Ask(CommandShape::Pen(PenShape::To))),
+            on(3, Instruction::Step),
+            on(3, Instruction::Step),
+            on(3, robot(RobotCommand::RightFree)),
+            on(3, Instruction::JumpNo(7)),
+            on(4, Instruction::Step),
+            on(4, Instruction::Step),
+            on(4, robot(RobotCommand::Right)),
+            on(6, Instruction::Step),
+            on(6, number(3)),
+            on(6, number(-4)),
+            on(6, Instruction::Step),
+            on(6, Instruction::Ask(CommandShape::Pen(PenShape::To))),
         ],
     )
 }
@@ -152,13 +129,13 @@ pub fn reading(alloc: Global) -> Result<CodeUnits, AllocError> {
     alone(
         alloc,
         [
-            (3, Instruction::Step),
-            (3, Instruction::Input(Kind::Whole)),
-            (3, Instruction::Out),
-            (4, Instruction::Step),
-            (4, Instruction::Input(Kind::Truth)),
-            (4, Instruction::Out),
-            (4, Instruction::OutLine),
+            on(3, Instruction::Step),
+            on(3, Instruction::Input(Kind::Whole)),
+            on(3, Instruction::Out),
+            on(4, Instruction::Step),
+            on(4, Instruction::Input(Kind::Truth)),
+            on(4, Instruction::Out),
+            on(4, Instruction::OutLine),
         ],
     )
 }
@@ -168,49 +145,53 @@ pub fn tabling(alloc: Global, low: i32, high: i32, at: i32) -> Result<CodeUnits,
     alone(
         alloc,
         [
-            (3, number(low)),
-            (3, number(high)),
-            (3, Instruction::Make(1, Kind::Whole, 1)),
-            (4, number(low)),
-            (4, number(high)),
-            (4, Instruction::Make(1, Kind::Whole, 1)),
-            (5, number(at)),
-            (5, number(50)),
-            (5, Instruction::PutElem(1, 1)),
-            (6, number(at)),
-            (6, Instruction::Elem(1, 1)),
-            (6, Instruction::Out),
+            on(3, number(low)),
+            on(3, number(high)),
+            on(3, Instruction::Make(1, Kind::Whole, 1)),
+            on(4, number(low)),
+            on(4, number(high)),
+            on(4, Instruction::Make(1, Kind::Whole, 1)),
+            on(5, number(at)),
+            on(5, number(50)),
+            on(5, Instruction::PutElem(1, 1)),
+            on(6, number(at)),
+            on(6, Instruction::Elem(1, 1)),
+            on(6, Instruction::Out),
         ],
     )
 }
 
-/// 5 is stored, the second unit called with it, and what it then is printed.
-fn with_five(alloc: Global) -> Result<[(u32, Instruction); 7], AllocError> {
-    let called = call(alloc, CallPlace::Slot(0))?;
-    Ok([
-        (1, number(5)),
-        (1, Instruction::Store(0)),
-        (2, Instruction::Load(0)),
-        (2, Instruction::Step),
-        (2, called),
-        (3, Instruction::Load(0)),
-        (3, Instruction::Out),
-    ])
+/// The second unit, with one parameter `аргрез`, is given 5, and what it makes of it is printed.
+fn given_five<const M: usize>(alloc: Global, called: [CodeLine; M]) -> Result<CodeUnits, AllocError>
+    requires { M ≤ 100 }
+{
+    let first = call(alloc, CallPlace::Slot(0))?;
+    calling(
+        alloc,
+        [
+            on(1, number(5)),
+            on(1, Instruction::Store(0)),
+            on(2, Instruction::Load(0)),
+            on(2, Instruction::Step),
+            on(2, first),
+            on(3, Instruction::Load(0)),
+            on(3, Instruction::Out),
+        ],
+        Mode::ArgRes,
+        0,
+        called,
+    )
 }
 
 /// `f(аргрез цел y)` is given 5 and adds it to itself.
 pub fn doubling(alloc: Global) -> Result<CodeUnits, AllocError> {
-    let given = with_five(alloc)?;
-    calling(
+    given_five(
         alloc,
-        given,
-        Mode::ArgRes,
-        0,
         [
-            (8, Instruction::Load(0)),
-            (8, Instruction::Load(0)),
-            (8, Instruction::Add),
-            (8, Instruction::Store(0)),
+            on(8, Instruction::Load(0)),
+            on(8, Instruction::Load(0)),
+            on(8, Instruction::Add),
+            on(8, Instruction::Store(0)),
         ],
     )
 }
@@ -218,16 +199,12 @@ pub fn doubling(alloc: Global) -> Result<CodeUnits, AllocError> {
 /// `f(аргрез цел y)` is given 5 and calls itself until the depth ends.
 pub fn calling_itself(alloc: Global) -> Result<CodeUnits, AllocError> {
     let again = call(alloc, CallPlace::Slot(0))?;
-    let given = with_five(alloc)?;
-    calling(
+    given_five(
         alloc,
-        given,
-        Mode::ArgRes,
-        0,
         [
-            (7, Instruction::Load(0)),
-            (7, Instruction::Step),
-            (7, again),
+            on(7, Instruction::Load(0)),
+            on(7, Instruction::Step),
+            on(7, again),
         ],
     )
 }
@@ -240,22 +217,22 @@ pub fn copying_to_an_element(alloc: Global) -> Result<CodeUnits, AllocError> {
     calling(
         alloc,
         [
-            (1, number(1)),
-            (1, number(3)),
-            (1, Instruction::Make(1, Kind::Whole, 1)),
-            (2, number(2)),
-            (2, Instruction::Store(3)),
-            (2, Instruction::Step),
-            (2, called),
-            (3, number(2)),
-            (3, Instruction::Elem(1, 1)),
-            (3, Instruction::Out),
-            (4, number(1)),
-            (4, Instruction::Elem(1, 1)),
+            on(1, number(1)),
+            on(1, number(3)),
+            on(1, Instruction::Make(1, Kind::Whole, 1)),
+            on(2, number(2)),
+            on(2, Instruction::Store(3)),
+            on(2, Instruction::Step),
+            on(2, called),
+            on(3, number(2)),
+            on(3, Instruction::Elem(1, 1)),
+            on(3, Instruction::Out),
+            on(4, number(1)),
+            on(4, Instruction::Elem(1, 1)),
         ],
         Mode::Res,
         0,
-        [(8, number(7)), (8, Instruction::Store(0))],
+        [on(8, number(7)), on(8, Instruction::Store(0))],
     )
 }
 
@@ -266,26 +243,26 @@ pub fn giving_a_table(alloc: Global, mode: Mode) -> Result<CodeUnits, AllocError
     calling(
         alloc,
         [
-            (1, number(1)),
-            (1, number(500_000)),
-            (1, Instruction::Make(1, Kind::Whole, 1)),
-            (2, number(1)),
-            (2, number(50)),
-            (2, Instruction::PutElem(1, 1)),
-            (3, Instruction::Step),
-            (3, first),
-            (4, Instruction::Step),
-            (4, second),
-            (5, number(1)),
-            (5, Instruction::Elem(1, 1)),
-            (5, Instruction::Out),
+            on(1, number(1)),
+            on(1, number(500_000)),
+            on(1, Instruction::Make(1, Kind::Whole, 1)),
+            on(2, number(1)),
+            on(2, number(50)),
+            on(2, Instruction::PutElem(1, 1)),
+            on(3, Instruction::Step),
+            on(3, first),
+            on(4, Instruction::Step),
+            on(4, second),
+            on(5, number(1)),
+            on(5, Instruction::Elem(1, 1)),
+            on(5, Instruction::Out),
         ],
         mode,
         1,
         [
-            (8, number(1)),
-            (8, number(60)),
-            (8, Instruction::PutElem(1, 1)),
+            on(8, number(1)),
+            on(8, number(60)),
+            on(8, Instruction::PutElem(1, 1)),
         ],
     )
 }
@@ -296,23 +273,23 @@ pub fn giving_back(alloc: Global, value: bool) -> Result<CodeUnits, AllocError> 
     let mut units = alone(
         alloc,
         [
-            (1, number(41)),
-            (1, Instruction::Step),
-            (1, called),
-            (1, Instruction::Out),
+            on(1, number(41)),
+            on(1, Instruction::Step),
+            on(1, called),
+            on(1, Instruction::Out),
         ],
     )?;
     let mut called = unit(
         alloc,
         [
-            (7, Instruction::Load(0)),
-            (7, number(1)),
-            (7, Instruction::Add),
-            (7, Instruction::Store(0)),
-            (8, Instruction::Push(Value::Truth(value))),
-            (8, Instruction::JumpNo(7)),
-            (8, Instruction::Jump(8)),
-            (8, Instruction::Clear(0)),
+            on(7, Instruction::Load(0)),
+            on(7, number(1)),
+            on(7, Instruction::Add),
+            on(7, Instruction::Store(0)),
+            on(8, Instruction::Push(Value::Truth(value))),
+            on(8, Instruction::JumpNo(7)),
+            on(8, Instruction::Jump(8)),
+            on(8, Instruction::Clear(0)),
         ],
     )?;
     called.params.push(ParamSlot {
@@ -334,10 +311,10 @@ pub fn operating(
     alone(
         alloc,
         [
-            (6, number(a)),
-            (6, number(b)),
-            (6, what),
-            (6, Instruction::Out),
+            on(6, number(a)),
+            on(6, number(b)),
+            on(6, what),
+            on(6, Instruction::Out),
         ],
     )
 }
@@ -347,10 +324,10 @@ pub fn ending(alloc: Global, value: bool, what: Instruction) -> Result<CodeUnits
     alone(
         alloc,
         [
-            (5, Instruction::Push(Value::Truth(value))),
-            (6, what),
-            (7, Instruction::Load(0)),
-            (7, Instruction::Out),
+            on(5, Instruction::Push(Value::Truth(value))),
+            on(6, what),
+            on(7, Instruction::Load(0)),
+            on(7, Instruction::Out),
         ],
     )
 }

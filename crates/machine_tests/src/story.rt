@@ -4,6 +4,7 @@ ghost use Rattle.performer_kit.specs.declared.commands.Command.TheVariants.{Robo
 ghost use Rattle.kumir_machine.specs.Course.{CanHave, Owes};
 ghost use Rattle.performer_kit.specs.declared.commands.Command.{Command};
 
+use code_samples::shared;
 use km_base::Memory;
 use kumir_machine::{Advanced, Machine};
 use kumir_tree::Chars;
@@ -13,7 +14,6 @@ use sqlite_items::Items;
 use stack_code::{Code, CodeUnits, valid};
 use std::alloc::{AllocError, Global};
 use std::fmt::Write;
-use std::sync::Arc;
 
 /// What is given to a machine. A command has its best reply, or its other one, as told for each.
 #[derive(Clone, Copy)]
@@ -73,7 +73,7 @@ fn values(alloc: Global, values: &[Value]) -> Result<Values, AllocError> {
 /// Whether the machine still awaits a reply when it is asked again.
 fn still_awaits(alloc: Global, machine: &mut Machine, most: u32) -> bool
     requires most { 1 ≤ most }
-    ensures stands { (c : Command) → machine.old.stands ≡ Owes c → machine.new.stands ≡ Owes c }
+    ensures owes { (c : Command) → machine.old.condition ≡ Owes c → machine.new.condition ≡ Owes c }
 {
     let again = machine.advance(alloc, most);
     matches!(again, Advanced::AwaitReply) && machine.awaits()
@@ -89,7 +89,7 @@ fn answer(
     most: u32,
 ) -> Result<bool, AllocError>
     requires most { 1 ≤ most }
-    requires owed { machine.old.stands ≡ Owes command }
+    requires owed { machine.old.condition ≡ Owes command }
 {
     write!(told, "<{command:?}>")?;
     if !still_awaits(alloc, machine, most) {
@@ -157,9 +157,7 @@ fn machine_of(alloc: Global, units: CodeUnits, given: Given) -> Result<Option<Ma
     if !valid(alloc, &units, Some(0))? {
         return Ok(None);
     }
-    let Ok(code) = Arc::new(alloc, Code::new(units, Some(0))) else {
-        return Err(Memory);
-    };
+    let code = shared(alloc, Code::new(units, Some(0)))?;
     let inputs = values(alloc, given.inputs)?;
     let machine = Machine::new(alloc, code, inputs, given.budget)?;
     Ok(Some(machine))

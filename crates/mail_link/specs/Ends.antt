@@ -65,7 +65,3 @@ module _ {T : Type 0} where
   -- at a step of the call the queue held its capacity: as many of the items sent, the last ones
   abbrev pub FoundFull : SendEnd T → Type 0
   FoundFull s = (taken : List T) × Delivered s.sent taken s.capacity
-
-  -- at a step of the call the queue held nothing: what was sent was what this end had taken
-  abbrev pub FoundEmpty : TakeEnd T → Type 0
-  FoundEmpty r = (sent : List T) × Delivered sent r.taken 0

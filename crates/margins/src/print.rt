@@ -35,7 +35,7 @@ fn push_mark(out: &mut String, mark: Mark) -> Result<(), AllocError>
     write!(out, " {line}:{code}")
 }
 
-/// The margin as the transcript shows it: ` LINE:CODE` for each mark (docs/LANGUAGE.md, "Transcript").
+/// The margin as the transcript shows it: ` LINE:CODE` for each mark (docs/PROGRAM.md, "Transcript").
 pub fn print_margin(alloc: Global, margin: &Margin) -> Result<String, Memory>
     ensures { IfOk result (λ text. string_bytes text ≡ printed_margin margin.now) }
 {

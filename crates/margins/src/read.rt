@@ -112,7 +112,7 @@ fn has_fault_codes(marks: &[Mark]) -> bool
     marks.iter().all(|mark| is_fault_code(mark.code))
 }
 
-/// The margin with codes of faults that prints as this text (docs/LANGUAGE.md, "Transcript"). `NotMargin` comes
+/// The margin with codes of faults that prints as this text (docs/PROGRAM.md, "Transcript"). `NotMargin` comes
 /// exactly where no such margin prints as it.
 pub fn read_margin(alloc: Global, text: &str) -> Result<Margin, MarginRefusal>
     ensures printed { IfOk result (λ m. IsMargin m × HasFaultCodes m × (text.now ≡ printed_margin m)) }

@@ -13,6 +13,3 @@ pub use names::{
     pen_shape, pen_shape_of, performer_of, performer_of_name, robot_command, robot_command_of,
 };
 pub use print::print_command;
-
-#[cfg(test)]
-mod tests;

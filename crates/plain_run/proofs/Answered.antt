@@ -8,10 +8,9 @@ use Rattle.std.proofs.lemmas.List.Sums.{fold_push, sum_by_push}
 use Rattle.std.proofs.lemmas.List.Elements.{Contains-push, Contains-append_left, Contains-push_cases}
 use Rattle.margins.specs.declared.margin.Mark.{Mark}
 use Rattle.text_versions.specs.declared.edit.Edit.{Edit}
-use Rattle.text_versions.specs.declared.limits.TheConstants.{TEXT_LIMITS}
 use Rattle.text_versions.specs.declared.versions.ApplyRefusal.{ApplyRefusal}
 use Rattle.text_versions.specs.declared.versions.ApplyRefusal.TheVariants as refusal
-use Rattle.text_versions.specs.Texts.{is_within}
+use Rattle.text_versions.specs.Texts.{is_within, text_limits}
 use Rattle.text_versions.specs.Edits.{is_in_range, edited, text_after, answer_to}
 use Rattle.script_lines.specs.declared.request.Ask.{Ask}
 use Rattle.script_lines.specs.declared.request.Ask.TheVariants as ask
@@ -23,10 +22,10 @@ use Rattle.script_lines.specs.Answer.{with_ask, accepted, is_edit, newest, NoneO
 use Rattle.plain_run.specs.Plain.{IsMarginOf, StandsBehind, AreAnswers, IsPlain}
 use Rattle.plain_run.specs.Carried.{IsNewestMargin, Alone, SaysEdit, Answers, Carries}
 
-abbrev HasNoRun : List Entry → Type 0
+abbrev pub HasNoRun : List Entry → Type 0
 HasNoRun before = (run v : ℕ) → Contains before (entry.Run run v) → ⊥
 
-abbrev IsNoRun : Entry → Type 0
+abbrev pub IsNoRun : Entry → Type 0
 IsNoRun e = (run v : ℕ) → e ≢ entry.Run run v
 
 -- what holds behind the answers to the earlier requests, where these edits were accepted
@@ -52,10 +51,10 @@ settled earlier before edits s = record {
 newest_push : (before : List Entry) (e : Entry) → newest (before ++ e ∷ []) ≡ newest before + cond (is_edit e) 1 0
 newest_push before e = sum_by_push (λ x. cond (is_edit x) 1 0) before e
 
-no_run_push : (before : List Entry) (e : Entry) → HasNoRun before → IsNoRun e → HasNoRun (before ++ e ∷ [])
+pub no_run_push : (before : List Entry) (e : Entry) → HasNoRun before → IsNoRun e → HasNoRun (before ++ e ∷ [])
 no_run_push before e old other run v c = ⊎_elim (λ b. old run v b) (λ same. other run v same) (Contains-push_cases before e (entry.Run run v) c)
 
-accepted_push : (earlier : List Request) (r : Request) (edits : List Edit) → accepted earlier ≡ edits → accepted (earlier ++ r ∷ []) ≡ with_ask edits r.ask
+pub accepted_push : (earlier : List Request) (r : Request) (edits : List Edit) → accepted earlier ≡ edits → accepted (earlier ++ r ∷ []) ≡ with_ask edits r.ask
 accepted_push earlier r edits kept = fold_push (λ es q. with_ask es q.ask) [] earlier r ∙ ap (λ es. with_ask es r.ask) kept
 
 -- what one request adds
@@ -87,13 +86,13 @@ outcome_number true false c n v is = absurd (let none : ⊥ = cc in none)
 outcome_number false b c n v is = absurd (let none : ⊥ = cc in none)
 
 -- an edit that is accepted makes the next version
-accepted_number : (edits : List Edit) (e : Edit) (v : ℕ) → answer_to TEXT_LIMITS edits e ≡ Ok v → v ≡ length edits + 1
-accepted_number edits e v is = outcome_number (is_in_range (text_after edits) e) (is_within TEXT_LIMITS (edited (text_after edits) e)) (nat_le TEXT_LIMITS.versions (length edits)) (length edits + 1) v is
+accepted_number : (edits : List Edit) (e : Edit) (v : ℕ) → answer_to text_limits edits e ≡ Ok v → v ≡ length edits + 1
+accepted_number edits e v is = outcome_number (is_in_range (text_after edits) e) (is_within text_limits (edited (text_after edits) e)) (nat_le text_limits.versions (length edits)) (length edits + 1) v is
 
 newest_margin : (edits : List Edit) (margin : Entry) → IsNewestMargin edits margin → IsMarginOf edits (length edits) margin
 newest_margin edits margin m = (m.0, subst (λ es. Full (text_after es) m.0) (sym (take_all (length edits) edits (let all : length edits ≤ length edits = omega arith in all))) m.1, m.2)
 
-step_accepted : (earlier : List Request) (before : List Entry) (edits : List Edit) (line : ℕ) (e : Edit) (v : ℕ) (first : List Entry) (after : List Edit) → Stands earlier before edits → answer_to TEXT_LIMITS edits e ≡ Ok v → SaysEdit (Ok v) edits e first after → Step earlier before (record { line = line; ask = ask.Edit e }) first after
+step_accepted : (earlier : List Request) (before : List Entry) (edits : List Edit) (line : ℕ) (e : Edit) (v : ℕ) (first : List Entry) (after : List Edit) → Stands earlier before edits → answer_to text_limits edits e ≡ Ok v → SaysEdit (Ok v) edits e first after → Step earlier before (record { line = line; ask = ask.Edit e }) first after
 step_accepted earlier before edits line e v first after s is says =
     let r : Request = record { line = line; ask = ask.Edit e } in
     let margin = says.0 in
@@ -101,7 +100,7 @@ step_accepted earlier before edits line e v first after s is says =
     let more : length after ≡ length edits + 1 = ap length says.2 ∙ length-append edits (e ∷ []) in
     let kept : accepted (earlier ++ r ∷ []) ≡ after = accepted_push earlier r edits s.kept ∙ rw is (sym says.2) in
     let now : v ≡ length after = number ∙ sym more in
-    let answer : Answer earlier before r (entry.Edit v) = subst (λ es. SaysOutcome before (answer_to TEXT_LIMITS es e) (entry.Edit v)) (sym s.kept) (subst (λ o. SaysOutcome before o (entry.Edit v)) (sym is) (ap entry.Edit (let next : v ≡ newest before + 1 = omega (arith, number, s.counted) in next))) in
+    let answer : Answer earlier before r (entry.Edit v) = subst (λ es. SaysOutcome before (answer_to text_limits es e) (entry.Edit v)) (sym s.kept) (subst (λ o. SaysOutcome before o (entry.Edit v)) (sym is) (ap entry.Edit (let next : v ≡ newest before + 1 = omega (arith, number, s.counted) in next))) in
     let full : IsMarginOf (accepted (earlier ++ r ∷ [])) v margin = subst (λ es. IsMarginOf es v margin) (sym kept) (subst (λ n. IsMarginOf after n margin) (sym now) (newest_margin after margin says.1)) in
     let entries : before ++ entry.Edit v ∷ margin ∷ [] ≡ (before ++ entry.Edit v ∷ []) ++ margin ∷ [] = sym (append_assoc before (entry.Edit v ∷ []) (margin ∷ [])) in
     let no_edit : is_edit margin ≡ false = ap is_edit says.1.2 in
@@ -114,12 +113,12 @@ step_accepted earlier before edits line e v first after s is says =
     } in
     (entry.Edit v, margin ∷ [], answer, (margin, full, refl), subst (λ es. Stands (earlier ++ r ∷ []) es after) (sym entries) stands, says.3)
 
-step_refused : (earlier : List Request) (before : List Entry) (edits : List Edit) (line : ℕ) (e : Edit) (why : ApplyRefusal) (x : Entry) (first : List Entry) (after : List Edit) → Stands earlier before edits → answer_to TEXT_LIMITS edits e ≡ Err why → Alone x edits first after → SaysOutcome before (Err why) x → is_edit x ≡ false → IsNoRun x → StandsBehind (accepted (earlier ++ record { line = line; ask = ask.Edit e } ∷ [])) x [] → Step earlier before (record { line = line; ask = ask.Edit e }) first after
+step_refused : (earlier : List Request) (before : List Entry) (edits : List Edit) (line : ℕ) (e : Edit) (why : ApplyRefusal) (x : Entry) (first : List Entry) (after : List Edit) → Stands earlier before edits → answer_to text_limits edits e ≡ Err why → Alone x edits first after → SaysOutcome before (Err why) x → is_edit x ≡ false → IsNoRun x → StandsBehind (accepted (earlier ++ record { line = line; ask = ask.Edit e } ∷ [])) x [] → Step earlier before (record { line = line; ask = ask.Edit e }) first after
 step_refused earlier before edits line e why x first after s is alone says no_edit other behind =
     step_alone earlier before edits (record { line = line; ask = ask.Edit e }) x first after s alone (rw is refl) no_edit other
-    (subst (λ es. SaysOutcome before (answer_to TEXT_LIMITS es e) x) (sym s.kept) (subst (λ o. SaysOutcome before o x) (sym is) says)) behind
+    (subst (λ es. SaysOutcome before (answer_to text_limits es e) x) (sym s.kept) (subst (λ o. SaysOutcome before o x) (sym is) says)) behind
 
-step_edit : (earlier : List Request) (before : List Entry) (edits : List Edit) (line : ℕ) (e : Edit) (outcome : Result ℕ ApplyRefusal) (first : List Entry) (after : List Edit) → Stands earlier before edits → answer_to TEXT_LIMITS edits e ≡ outcome → SaysEdit outcome edits e first after → Step earlier before (record { line = line; ask = ask.Edit e }) first after
+step_edit : (earlier : List Request) (before : List Entry) (edits : List Edit) (line : ℕ) (e : Edit) (outcome : Result ℕ ApplyRefusal) (first : List Entry) (after : List Edit) → Stands earlier before edits → answer_to text_limits edits e ≡ outcome → SaysEdit outcome edits e first after → Step earlier before (record { line = line; ask = ask.Edit e }) first after
 step_edit earlier before edits line e (Ok v) first after s is says = step_accepted earlier before edits line e v first after s is says
 step_edit earlier before edits line e (Err refusal.Range) first after s is says = step_refused earlier before edits line e refusal.Range entry.EditRange first after s is says refl refl (λ run v same. let none : ⊥ = cc in none) refl
 step_edit earlier before edits line e (Err refusal.TooLong) first after s is says = step_refused earlier before edits line e refusal.TooLong entry.EditLong first after s is says refl refl (λ run v same. let none : ⊥ = cc in none) refl
@@ -129,7 +128,7 @@ step_edit earlier before edits line e (Err refusal.Memory) first after s is says
 -- ---- all requests
 
 step_ask : (earlier : List Request) (before : List Entry) (edits : List Edit) (line : ℕ) (a : Ask) (first : List Entry) (after : List Edit) → Stands earlier before edits → Answers line a edits first after → Step earlier before (record { line = line; ask = a }) first after
-step_ask earlier before edits line (ask.Edit e) first after s says = step_edit earlier before edits line e (answer_to TEXT_LIMITS edits e) first after s refl says
+step_ask earlier before edits line (ask.Edit e) first after s says = step_edit earlier before edits line e (answer_to text_limits edits e) first after s refl says
 step_ask earlier before edits line (ask.Field lines) first after s says = step_alone earlier before edits (record { line = line; ask = ask.Field lines }) (entry.Bad line) first after s says refl refl (λ run v same. let none : ⊥ = cc in none) refl refl
 step_ask earlier before edits line (ask.Run inputs) first after s says = step_alone earlier before edits (record { line = line; ask = ask.Run inputs }) (entry.Bad line) first after s says refl refl (λ run v same. let none : ⊥ = cc in none) refl refl
 step_ask earlier before edits line ask.Stop first after s says = step_alone earlier before edits (record { line = line; ask = ask.Stop }) entry.StopIdle first after s says refl refl (λ run v same. let none : ⊥ = cc in none) (inr (none_open earlier before edits s, refl)) refl

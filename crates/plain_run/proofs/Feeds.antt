@@ -14,10 +14,10 @@ use Rattle.plain_run.specs.Feeds.{HasNoFeed}
 abbrev IsOther : ℕ → Type 0
 IsOther b = b ≢ 10
 
-front_others : (n : ℕ) (l : List ℕ) → AllByRecursion IsOther l → AllByRecursion IsOther (take n l)
-front_others zero l h = tt
-front_others (suc n) [] h = tt
-front_others (suc n) (b ∷ l) h = (h.0, front_others n l h.1)
+prefix_others : (n : ℕ) (l : List ℕ) → AllByRecursion IsOther l → AllByRecursion IsOther (take n l)
+prefix_others zero l h = tt
+prefix_others (suc n) [] h = tt
+prefix_others (suc n) (b ∷ l) h = (h.0, prefix_others n l h.1)
 
 behind_others : (xs ys : List ℕ) → AllByRecursion IsOther (xs ++ ys) → AllByRecursion IsOther ys
 behind_others [] ys h = h
@@ -26,7 +26,7 @@ behind_others (x ∷ xs) ys h = behind_others xs ys h.1
 strip_others : (l : List ℕ) → AllByRecursion IsOther l → AllByRecursion IsOther (strip_carriage_return l)
 strip_others l h =
     elim (get_or l (length l - 1) 0 == 13) as (λ t. AllByRecursion IsOther (cond t (take (length l - 1) l) l)) [
-      | true ↦ front_others (length l - 1) l h
+      | true ↦ prefix_others (length l - 1) l h
       | false ↦ h
     ]
 

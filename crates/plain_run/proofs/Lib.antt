@@ -1,6 +1,7 @@
 pub mod Prints
 pub mod Marks
 pub mod Told
+pub mod Faults
 pub mod Runs
 pub mod Sizes
 pub mod Limits
@@ -10,3 +11,4 @@ pub mod Checks
 pub mod Carried
 pub mod Answered
 pub mod ScriptRuns
+pub mod OnePlain

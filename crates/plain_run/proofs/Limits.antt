@@ -2,21 +2,21 @@
 use Rattle.std.proofs.Common.{map, ◌≡◌, ℕ, ◌+◌, ◌-◌, ◌<◌, ◌≤◌, List, [], ◌∷◌, ◌++◌, length, take, get_or, arith, sym, ap, subst, ◌∙◌}
 use Rattle.std.proofs.lemmas.List.{take_more, get_or-map, length-map, map-append}
 use Rattle.std.proofs.lemmas.List.Elements.{All-append}
-use Rattle.km_base.specs.declared.limits.TheConstants.{LINE_CHARACTERS}
+use Rattle.km_base.specs.Limits.{line_characters}
 use Rattle.plain_run.specs.Texts.{AreShort, IsFirstLong}
 
-one_short : (line : List ℕ) → length line ≤ LINE_CHARACTERS → AreShort (line ∷ [])
-one_short line fits k d lt = let first : k ≡ 0 = omega arith in subst (λ n. length (get_or (line ∷ []) n d) ≤ LINE_CHARACTERS) (sym first) fits
+one_short : (line : List ℕ) → length line ≤ line_characters → AreShort (line ∷ [])
+one_short line fits k d lt = let first : k ≡ 0 = omega arith in subst (λ n. length (get_or (line ∷ []) n d) ≤ line_characters) (sym first) fits
 
-pub short_more : {X : Type 0} (see : X → List ℕ) (xs : List X) (i : ℕ) (d : X) → i < length xs → AreShort (take i (map see xs)) → (n : ℕ) → n ≡ length (see (get_or xs i d)) → n ≤ LINE_CHARACTERS → AreShort (take (i + 1) (map see xs))
+pub short_more : {X : Type 0} (see : X → List ℕ) (xs : List X) (i : ℕ) (d : X) → i < length xs → AreShort (take i (map see xs)) → (n : ℕ) → n ≡ length (see (get_or xs i d)) → n ≤ line_characters → AreShort (take (i + 1) (map see xs))
 short_more see xs i d lt before n is_width narrow =
-    let fits : length (see (get_or xs i d)) ≤ LINE_CHARACTERS = omega (arith, is_width, narrow) in
+    let fits : length (see (get_or xs i d)) ≤ line_characters = omega (arith, is_width, narrow) in
     let inside : i < length (map see xs) = omega (arith, length-map xs see) in
-    let all : AreShort (take i (map see xs) ++ see (get_or xs i d) ∷ []) = All-append (λ line. length line ≤ LINE_CHARACTERS) (take i (map see xs)) (see (get_or xs i d) ∷ []) before (one_short (see (get_or xs i d)) fits) in
+    let all : AreShort (take i (map see xs) ++ see (get_or xs i d) ∷ []) = All-append (λ line. length line ≤ line_characters) (take i (map see xs)) (see (get_or xs i d) ∷ []) before (one_short (see (get_or xs i d)) fits) in
     let seam : take (i + 1) (map see xs) ≡ take i (map see xs) ++ see (get_or xs i d) ∷ [] = take_more (map see xs) i (see d) inside ∙ ap (λ line. take i (map see xs) ++ line ∷ []) (get_or-map see xs i d (see d) lt) in
     subst AreShort (sym seam) all
 
-pub first_long_at : {X : Type 0} (see : X → List ℕ) (xs : List X) (i : ℕ) (d : X) → i < length xs → AreShort (take i (map see xs)) → LINE_CHARACTERS < length (see (get_or xs i d)) → IsFirstLong (map see xs) (i + 1)
+pub first_long_at : {X : Type 0} (see : X → List ℕ) (xs : List X) (i : ℕ) (d : X) → i < length xs → AreShort (take i (map see xs)) → line_characters < length (see (get_or xs i d)) → IsFirstLong (map see xs) (i + 1)
 first_long_at see xs i d lt before long = record {
   counted = omega arith;
   within = omega (arith, length-map xs see);

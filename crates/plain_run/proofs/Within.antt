@@ -5,9 +5,8 @@ use Rattle.std.specs.List.{AllByRecursion, list_all}
 use Rattle.std.specs.Str.{encode_utf8_all}
 use Rattle.std.proofs.lemmas.List.Sums.{sum_by-append}
 use Rattle.std.proofs.lemmas.List.Elements.{recursion_from_All}
-use Rattle.km_base.specs.declared.limits.TheConstants.{TEXT_BYTES}
-use Rattle.text_versions.specs.declared.limits.TheConstants.{TEXT_LIMITS}
-use Rattle.text_versions.specs.Texts.{byte_count, is_within}
+use Rattle.km_base.specs.Limits.{text_bytes}
+use Rattle.text_versions.specs.Texts.{byte_count, is_within, text_limits}
 use Rattle.plain_run.specs.Feeds.{weight}
 use Rattle.plain_run.specs.Texts.{AreLines}
 
@@ -22,7 +21,7 @@ all_short : (ls : List (List ℕ)) (most : ℕ) → AllByRecursion (λ l. length
 all_short [] most h = refl
 all_short (l ∷ ls) most h = rw (le_true (length l) most h.0, all_short ls most h.1) refl
 
-pub within_limits : (ls bytes : List (List ℕ)) → map encode_utf8_all ls ≡ bytes → weight bytes ≤ TEXT_BYTES + 1 → AreLines ls → is_within TEXT_LIMITS ls ≡ true
+pub within_limits : (ls bytes : List (List ℕ)) → map encode_utf8_all ls ≡ bytes → weight bytes ≤ text_bytes + 1 → AreLines ls → is_within text_limits ls ≡ true
 within_limits ls bytes spelled weighed lines =
-    let fits : byte_count ls ≤ TEXT_LIMITS.bytes = omega (arith, spelled_weight ls, ap weight spelled, weighed) in
-    rw (le_true (byte_count ls) TEXT_LIMITS.bytes fits, le_true (length ls) TEXT_LIMITS.lines lines.few, all_short ls TEXT_LIMITS.characters (recursion_from_All (λ l. length l ≤ TEXT_LIMITS.characters) ls lines.short)) refl
+    let fits : byte_count ls ≤ text_limits.bytes = omega (arith, spelled_weight ls, ap weight spelled, weighed) in
+    rw (le_true (byte_count ls) text_limits.bytes fits, le_true (length ls) text_limits.lines lines.few, all_short ls text_limits.characters (recursion_from_All (λ l. length l ≤ text_limits.characters) ls lines.short)) refl

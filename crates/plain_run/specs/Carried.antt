@@ -1,5 +1,5 @@
 -- How the code goes over requests: it keeps the accepted edits, and no entries.
-use Rattle.std.specs.Prelude.{◌≡◌, ℕ, ◌+◌, ⊤, List, [], ◌∷◌, ◌++◌, length, Result, Ok, Err}
+use Rattle.std.specs.Prelude.{◌≡◌, ℕ, ◌+◌, List, [], ◌∷◌, ◌++◌, length, Result, Ok, Err}
 use Rattle.km_ports.specs.Ports.{Rose, TakesFrom}
 use Rattle.km_ports.specs.Whole.{TakesExactly}
 use Rattle.km_ports.specs.declared.status.Status.{Status}
@@ -7,9 +7,9 @@ use Rattle.km_ports.specs.declared.status.Status.TheVariants as status
 use Rattle.km_ports.specs.declared.status.Excess.TheVariants as excess
 use Rattle.margins.specs.declared.margin.Mark.{Mark}
 use Rattle.text_versions.specs.declared.edit.Edit.{Edit}
-use Rattle.text_versions.specs.declared.limits.TheConstants.{TEXT_LIMITS}
 use Rattle.text_versions.specs.declared.versions.ApplyRefusal.{ApplyRefusal}
 use Rattle.text_versions.specs.declared.versions.ApplyRefusal.TheVariants as refusal
+use Rattle.text_versions.specs.Texts.{text_limits}
 use Rattle.text_versions.specs.Edits.{text_after, answer_to}
 use Rattle.script_lines.specs.declared.request.Ask.{Ask}
 use Rattle.script_lines.specs.declared.request.Ask.TheVariants as ask
@@ -41,7 +41,7 @@ SaysEdit (Err refusal.Memory) edits e entries after = ⊥
 -- the entries that answer what the request at that line asks for, where these edits are accepted, and the edits that are
 -- accepted then
 abbrev pub Answers : ℕ → Ask → List Edit → List Entry → List Edit → Type 0
-Answers line (ask.Edit e) edits entries after = SaysEdit (answer_to TEXT_LIMITS edits e) edits e entries after
+Answers line (ask.Edit e) edits entries after = SaysEdit (answer_to text_limits edits e) edits e entries after
 Answers line (ask.Field lines) edits entries after = Alone (entry.Bad line) edits entries after
 Answers line (ask.Run inputs) edits entries after = Alone (entry.Bad line) edits entries after
 Answers line ask.Stop edits entries after = Alone entry.StopIdle edits entries after
@@ -58,18 +58,18 @@ Carries edits (r ∷ requests) entries after =
 -- ---- parts of a run
 
 -- why a part of a run stopped, where so many bytes might still come: the source or the sink failed, one byte more than
--- these was taken, or memory was wanted
+-- these was taken, or memory was wanted. No other count of faults rose.
 abbrev pub StopsFor : {T : Type 0} → ℕ → Ports → Result T Status → Type 0
 StopsFor room p (Ok x) = NothingFailed p
-StopsFor room p (Err status.Read) = Rose p.source_faults_before p.source_faults
-StopsFor room p (Err status.Write) = Rose p.sink_faults_before p.sink_faults
-StopsFor room p (Err status.Memory) = ⊤
-StopsFor room p (Err (status.TooLong excess.Bytes)) = TakesExactly (room + 1) p.left_before p.left
+StopsFor room p (Err status.Read) = Rose p.source_before.faults p.source.faults × (p.sink.faults ≡ p.sink_before.faults)
+StopsFor room p (Err status.Write) = (p.source.faults ≡ p.source_before.faults) × Rose p.sink_before.faults p.sink.faults
+StopsFor room p (Err status.Memory) = NothingFailed p
+StopsFor room p (Err (status.TooLong excess.Bytes)) = TakesExactly (room + 1) p.source_before p.source × NothingFailed p
 StopsFor room p (Err _) = ⊥
 
 -- these bytes were read behind those before, and the requests that they complete were carried out
 pub record HasCarried (p : Ports) (fed : List ℕ) (piece : List ℕ) (before after : List Edit) : Type 0 where
-  pub taken : TakesFrom p.left_before p.left piece
+  pub taken : TakesFrom p.source_before p.source piece
   pub more : List Request
   pub are_more : whole (fed ++ piece) ≡ whole fed ++ more
-  pub put : PutsEntries (λ entries. Carries before more entries after) p.written_before p.written
+  pub put : PutsEntries (λ entries. Carries before more entries after) p.sink_before p.sink

@@ -26,4 +26,4 @@ AnswersCheck input s text = IsChecked (lines_of input) s text
 pub record IsCheckRun (p : Ports) (s : Status) : Type 0 where
   pub run : IsTextRun AnswersCheck p s
   -- where the work was not done nothing was written, or not all of the margin
-  pub less : says_done s ≡ false → (input : List ℕ) → p.left_before ≡ Some input → WroteNothing p ⊎ CutsOff AnswersCheck p input
+  pub less : says_done s ≡ false → (input : List ℕ) → p.source_before.left ≡ Some input → WroteNothing p ⊎ CutsOff AnswersCheck p input

@@ -8,3 +8,4 @@ pub mod Ending
 pub mod Plain
 pub mod Carried
 pub mod Scripts
+pub mod OnePlain

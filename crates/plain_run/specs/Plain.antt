@@ -1,7 +1,6 @@
 -- The plain transcript of a script's requests: each is answered, and its version analysed, before the next one.
 -- docs/PROGRAM.md, "plain".
 use Rattle.std.specs.Prelude.{◌≡◌, ℕ, List, [], ◌∷◌, ◌++◌}
-use Rattle.std.specs.declared.option.Option.{Option}
 use Rattle.margins.specs.declared.margin.Mark.{Mark}
 use Rattle.text_versions.specs.declared.edit.Edit.{Edit}
 use Rattle.text_versions.specs.Edits.{version}
@@ -10,7 +9,7 @@ use Rattle.transcript.specs.declared.entry.Entry.{Entry}
 use Rattle.transcript.specs.declared.entry.Entry.TheVariants as entry
 use Rattle.transcript.specs.Print.{print}
 use Rattle.incr_analysis.specs.Full.{Full}
-use Rattle.km_ports.specs.Ports.{PutsInto}
+use Rattle.km_ports.specs.Ports.{SinkState, PutsInto}
 use Rattle.script_lines.specs.Answer.{accepted, Answer}
 
 -- the entry is the margin of version v: the full analysis of the text that the first v of the accepted edits make
@@ -44,5 +43,5 @@ abbrev pub IsPlain : List Request → List Entry → Type 0
 IsPlain requests entries = (answered : List Entry) × IsPlainOpen requests answered × (entries ≡ answered ++ entry.Bye ∷ [])
 
 -- entries that are such were printed
-abbrev pub PutsEntries : (List Entry → Type 0) → Option (List ℕ) → Option (List ℕ) → Type 0
+abbrev pub PutsEntries : (List Entry → Type 0) → SinkState → SinkState → Type 0
 PutsEntries Are before now = (entries : List Entry) × Are entries × PutsInto before now (print entries)

@@ -1,20 +1,9 @@
 //! With which status a command ends.
 
 ghost use Rattle.std.specs.Prelude.{◌≡◌};
-ghost use Rattle.plain_run.specs.Ending.{unread, ended};
+ghost use Rattle.plain_run.specs.Ending.{ended};
 
-use km_ports::{Excess, PutFault, ReadRefusal, Status};
-
-/// The status of an input that was not read to its end.
-pub fn unread(refusal: ReadRefusal) -> Status
-    ensures { result ≡ unread refusal }
-{
-    match refusal {
-        ReadRefusal::Failed => Status::Read,
-        ReadRefusal::TooLong => Status::TooLong(Excess::Bytes),
-        ReadRefusal::Memory => Status::Memory,
-    }
-}
+use km_ports::{PutFault, Status};
 
 /// The status of work that ends with `done`, once its text was put.
 pub fn ended(done: Status, put: Result<(), PutFault>) -> Status
@@ -22,7 +11,6 @@ pub fn ended(done: Status, put: Result<(), PutFault>) -> Status
 {
     match put {
         Ok(()) => done,
-        Err(PutFault::Failed) => Status::Write,
-        Err(PutFault::Memory) => Status::Memory,
+        Err(fault) => Status::from(fault),
     }
 }

@@ -4,6 +4,7 @@
 mod analysis;
 mod check;
 mod ending;
+mod laws;
 mod lines;
 mod plain;
 mod script;
@@ -11,5 +12,6 @@ mod text;
 mod tokens;
 
 pub use check::check_text;
+pub use laws::one_plain_transcript;
 pub use script::run_plain;
 pub use tokens::tokens_text;

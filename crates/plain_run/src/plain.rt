@@ -3,7 +3,7 @@
 ghost use Rattle.std.specs.Prelude.{List, ◌≡◌, ◌∷◌, [], Result, Ok, Err, IfOk, OnOk, reverse};
 ghost use Rattle.text_versions.specs.declared.versions.ApplyRefusal.TheVariants as refusal;
 ghost use Rattle.text_versions.specs.Edits.{answer_to};
-ghost use Rattle.text_versions.specs.declared.limits.TheConstants.{TEXT_LIMITS};
+ghost use Rattle.text_versions.specs.Texts.{text_limits};
 ghost use Rattle.script_lines.specs.declared.request.Ask.{Ask};
 ghost use Rattle.transcript.specs.Print.{IsPrintable, printed_entry};
 ghost use Rattle.km_ports.specs.Ports.{PutsInto};
@@ -13,7 +13,7 @@ ghost use Rattle.plain_run.specs.Carried.{IsNewestMargin, Alone, SaysEdit, Answe
 
 use crate::analysis::margin_of;
 use km_base::Memory;
-use km_ports::{PutFault, Sink, Status, put_all};
+use km_ports::{Sink, Status, put_all};
 use script_lines::{Ask, Request, Requests};
 use sqlite_items::Items;
 use std::alloc::{AllocError, Global};
@@ -22,25 +22,20 @@ use transcript::{Entry, print_entry};
 
 // Puts a text into the sink.
 fn put_text<O: Sink>(text: &str, output: &mut O) -> Result<(), Status>
-    ensures whole { OnOk result (PutsInto (O.written output.old) (O.written output.new) text.now) }
-    ensures cause { StopsPut (O.faults output.old) (O.faults output.new) result }
+    ensures whole { OnOk result (PutsInto (O.state output.old) (O.state output.new) text.now) }
+    ensures cause { StopsPut (O.state output.old) (O.state output.new) result }
 {
-    match put_all(output, text.as_bytes()) {
-        Ok(()) => Ok(()),
-        Err(PutFault::Failed) => Err(Status::Write),
-        Err(PutFault::Memory) => Err(Status::Memory),
-    }
+    put_all(output, text.as_bytes())?;
+    Ok(())
 }
 
 /// Puts one entry into the sink, a line with its end.
 pub fn put_entry<O: Sink>(alloc: Global, entry: Entry, output: &mut O) -> Result<(), Status>
     requires { IsPrintable entry }
-    ensures whole { OnOk result (PutsInto (O.written output.old) (O.written output.new) (printed_entry entry)) }
-    ensures cause { StopsPut (O.faults output.old) (O.faults output.new) result }
+    ensures whole { OnOk result (PutsInto (O.state output.old) (O.state output.new) (printed_entry entry)) }
+    ensures cause { StopsPut (O.state output.old) (O.state output.new) result }
 {
-    let Ok(text) = print_entry(alloc, &entry) else {
-        return Err(Status::Memory);
-    };
+    let text = print_entry(alloc, &entry)?;
     put_text(&text, output)
 }
 
@@ -58,19 +53,21 @@ fn margin_entry(alloc: Global, versions: &Versions) -> Result<Entry, Memory>
 
 /// Puts the margin of the newest version into the sink.
 pub fn put_margin<O: Sink>(alloc: Global, versions: &Versions, output: &mut O) -> Result<(), Status>
-    ensures whole { OnOk result (PutsEntries (λ entries. (margin : Entry) × IsNewestMargin versions.now margin × (entries ≡ margin ∷ [])) (O.written output.old) (O.written output.new)) }
-    ensures cause { StopsPut (O.faults output.old) (O.faults output.new) result }
+    ensures whole { OnOk result (PutsEntries
+        (λ entries. (margin : Entry) × IsNewestMargin versions.now margin × (entries ≡ margin ∷ []))
+        (O.state output.old) (O.state output.new)) }
+    ensures cause { StopsPut (O.state output.old) (O.state output.new) result }
 {
-    let Ok(margin) = margin_entry(alloc, versions) else {
-        return Err(Status::Memory);
-    };
+    let margin = margin_entry(alloc, versions)?;
     put_entry(alloc, margin, output)
 }
 
 // Puts the answer to an edit that was refused.
 fn put_refusal<O: Sink>(alloc: Global, refusal: ApplyRefusal, output: &mut O) -> Result<(), Status>
-    ensures whole { OnOk result (PutsEntries (λ entries. (edits : List Edit) → (e : Edit) → SaysEdit (Err refusal) edits e entries edits) (O.written output.old) (O.written output.new)) }
-    ensures cause { StopsPut (O.faults output.old) (O.faults output.new) result }
+    ensures whole { OnOk result (PutsEntries
+        (λ entries. (edits : List Edit) → (e : Edit) → SaysEdit (Err refusal) edits e entries edits)
+        (O.state output.old) (O.state output.new)) }
+    ensures cause { StopsPut (O.state output.old) (O.state output.new) result }
 {
     match refusal {
         ApplyRefusal::Range => put_entry(alloc, Entry::EditRange, output),
@@ -87,8 +84,10 @@ fn put_edit<O: Sink>(
     edit: Edit,
     output: &mut O,
 ) -> Result<(), Status>
-    ensures whole { OnOk result (PutsEntries (λ entries. SaysEdit (answer_to TEXT_LIMITS versions.old edit) versions.old edit entries versions.new) (O.written output.old) (O.written output.new)) }
-    ensures cause { StopsPut (O.faults output.old) (O.faults output.new) result }
+    ensures whole { OnOk result (PutsEntries
+        (λ entries. SaysEdit (answer_to text_limits versions.old edit) versions.old edit entries versions.new)
+        (O.state output.old) (O.state output.new)) }
+    ensures cause { StopsPut (O.state output.old) (O.state output.new) result }
 {
     match versions.apply(edit) {
         Ok(version) => {
@@ -106,8 +105,10 @@ pub fn put_answer<O: Sink>(
     request: Request,
     output: &mut O,
 ) -> Result<(), Status>
-    ensures whole { OnOk result (PutsEntries (λ entries. Answers request.line request.ask versions.old entries versions.new) (O.written output.old) (O.written output.new)) }
-    ensures cause { StopsPut (O.faults output.old) (O.faults output.new) result }
+    ensures whole { OnOk result (PutsEntries
+        (λ entries. Answers request.line request.ask versions.old entries versions.new)
+        (O.state output.old) (O.state output.new)) }
+    ensures cause { StopsPut (O.state output.old) (O.state output.new) result }
 {
     let Request { line, ask } = request;
     match ask {
@@ -138,12 +139,11 @@ pub fn put_answers<O: Sink>(
     requests: Requests,
     output: &mut O,
 ) -> Result<(), Status>
-    ensures whole { OnOk result (PutsEntries (λ entries. Carries versions.old requests entries versions.new) (O.written output.old) (O.written output.new)) }
-    ensures cause { StopsPut (O.faults output.old) (O.faults output.new) result }
+    ensures whole { OnOk result (PutsEntries (λ entries. Carries versions.old requests entries versions.new)
+        (O.state output.old) (O.state output.new)) }
+    ensures cause { StopsPut (O.state output.old) (O.state output.new) result }
 {
-    let Ok(mut waiting) = turned(alloc, requests) else {
-        return Err(Status::Memory);
-    };
+    let mut waiting = turned(alloc, requests)?;
     while let Some(request) = waiting.pop() {
         put_answer(alloc, versions, request, output)?;
     }

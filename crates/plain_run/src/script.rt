@@ -2,6 +2,7 @@
 
 ghost use Rattle.std.specs.Prelude.{◌≡◌, ◌≤◌, ◌<◌, ◌+◌, ◌++◌, ◌∷◌, ℕ, List, [], length, Some, Option, IfOk, IfSome, OnOk};
 ghost use Rattle.std.specs.Io.KnownBytes.{IsAtEnd};
+ghost use Rattle.km_base.specs.Limits.{script_bytes};
 ghost use Rattle.km_ports.specs.Ports.{TakesFrom};
 ghost use Rattle.km_ports.specs.Whole.{TakesUpTo};
 ghost use Rattle.script_lines.specs.Requests.{whole, requests};
@@ -24,7 +25,7 @@ use transcript::Entry;
 const PIECE_BYTES: usize = 4096;
 
 // Takes bytes into the buffer once, and carries out the requests that they complete, where `room` bytes may still come.
-// It asks for no more than these and one. Answers how many bytes came.
+// It takes no more than these and one. Answers how many bytes came.
 fn carry_piece<I: Source, O: Sink>(
     alloc: Global,
     reader: &mut ScriptReader,
@@ -34,24 +35,25 @@ fn carry_piece<I: Source, O: Sink>(
     input: &mut I,
     output: &mut O,
 ) -> Result<usize, Status>
-    requires fed { (fed : List ℕ) × (reader.now ≡ Some fed) × (length fed + room ≤ SCRIPT_BYTES) }
+    requires fed { (fed : List ℕ) × (reader.now ≡ Some fed) × (length fed + room ≤ script_bytes) }
     requires buffer { 0 < length buffer.now }
-    ensures carried { (fed : List ℕ) → reader.old ≡ Some fed → IfOk result (λ count. (piece : List ℕ) × (length piece ≡ count) × (reader.new ≡ Some (fed ++ piece)) × HasCarried (ports (I.left input.old) (I.left input.new) (I.faults input.old) (I.faults input.new) (O.written output.old) (O.written output.new) (O.faults output.old) (O.faults output.new)) fed piece versions.old versions.new) }
+    ensures carried { (fed : List ℕ) → reader.old ≡ Some fed → IfOk result (λ count. (piece : List ℕ)
+        × (length piece ≡ count) × (reader.new ≡ Some (fed ++ piece))
+        × HasCarried (ports (I.state input.old) (I.state input.new)
+        (O.state output.old) (O.state output.new))
+        fed piece versions.old versions.new) }
     ensures within { IfOk result (λ count. count ≤ room) }
-    ensures end { IfOk result (λ count. count ≡ 0 → IsAtEnd (I.left input.old)) }
-    ensures taken { TakesUpTo (room + 1) (I.left input.old) (I.left input.new) }
-    ensures cause { StopsFor room (ports (I.left input.old) (I.left input.new) (I.faults input.old) (I.faults input.new) (O.written output.old) (O.written output.new) (O.faults output.old) (O.faults output.new)) result }
+    ensures end { IfOk result (λ count. count ≡ 0 → IsAtEnd (I.state input.old).left) }
+    ensures taken { TakesUpTo (room + 1) (I.state input.old) (I.state input.new) }
+    ensures cause { StopsFor room (ports (I.state input.old) (I.state input.new)
+        (O.state output.old) (O.state output.new)) result }
 {
     let asked = room.min(buffer.len() - 1) + 1;
-    let Ok(count) = input.take(&mut buffer[..asked]) else {
-        return Err(Status::Read);
-    };
+    let count = input.take(&mut buffer[..asked])?;
     if count > room {
         return Err(Status::TooLong(Excess::Bytes));
     }
-    let Ok(requests) = reader.feed(&buffer[..count]) else {
-        return Err(Status::Memory);
-    };
+    let requests = reader.feed(&buffer[..count])?;
     put_answers(alloc, versions, requests, output)?;
     Ok(count)
 }
@@ -64,10 +66,14 @@ fn carry_pieces<I: Source, O: Sink>(
     input: &mut I,
     output: &mut O,
 ) -> Result<ScriptReader, Status>
-    ensures carried { IfOk result (λ reader. (fed : List ℕ) × (reader ≡ Some fed) × (length fed ≤ SCRIPT_BYTES) × HasCarried (ports (I.left input.old) (I.left input.new) (I.faults input.old) (I.faults input.new) (O.written output.old) (O.written output.new) (O.faults output.old) (O.faults output.new)) [] fed versions.old versions.new) }
-    ensures end { OnOk result (IsAtEnd (I.left input.new)) }
-    ensures taken { TakesUpTo (SCRIPT_BYTES + 1) (I.left input.old) (I.left input.new) }
-    ensures cause { StopsFor SCRIPT_BYTES (ports (I.left input.old) (I.left input.new) (I.faults input.old) (I.faults input.new) (O.written output.old) (O.written output.new) (O.faults output.old) (O.faults output.new)) result }
+    ensures carried { IfOk result (λ reader. (fed : List ℕ) × (reader ≡ Some fed) × (length fed ≤ script_bytes)
+        × HasCarried (ports (I.state input.old) (I.state input.new)
+        (O.state output.old) (O.state output.new))
+        [] fed versions.old versions.new) }
+    ensures end { OnOk result (IsAtEnd (I.state input.new).left) }
+    ensures taken { TakesUpTo (script_bytes + 1) (I.state input.old) (I.state input.new) }
+    ensures cause { StopsFor script_bytes (ports (I.state input.old) (I.state input.new)
+        (O.state output.old) (O.state output.new)) result }
 {
     let mut reader = ScriptReader::new(alloc);
     let mut buffer = [0; PIECE_BYTES];
@@ -97,12 +103,13 @@ fn carry_last<O: Sink>(
     output: &mut O,
 ) -> Result<(), Status>
     requires { IfSome reader (λ fed. length fed < 4294967295) }
-    ensures whole { (fed : List ℕ) → reader ≡ Some fed → OnOk result (PutsEntries (λ entries. (last : List Request) × (requests fed ≡ whole fed ++ last) × Carries versions.old last entries versions.new) (O.written output.old) (O.written output.new)) }
-    ensures cause { StopsPut (O.faults output.old) (O.faults output.new) result }
+    ensures whole { (fed : List ℕ) → reader ≡ Some fed → OnOk result (PutsEntries
+        (λ entries. (last : List Request) × (requests fed ≡ whole fed ++ last)
+        × Carries versions.old last entries versions.new)
+        (O.state output.old) (O.state output.new)) }
+    ensures cause { StopsPut (O.state output.old) (O.state output.new) result }
 {
-    let Ok(last) = reader.finish() else {
-        return Err(Status::Memory);
-    };
+    let last = reader.finish()?;
     match last {
         Some(request) => put_answer(alloc, versions, request, output),
         None => Ok(()),
@@ -115,14 +122,15 @@ fn carry_script<I: Source, O: Sink>(
     input: &mut I,
     output: &mut O,
 ) -> Result<(), Status>
-    ensures carried { OnOk result ((fed : List ℕ) × (length fed ≤ SCRIPT_BYTES) × TakesFrom (I.left input.old) (I.left input.new) fed × PutsEntries (IsPlain (requests fed)) (O.written output.old) (O.written output.new)) }
-    ensures end { OnOk result (IsAtEnd (I.left input.new)) }
-    ensures taken { TakesUpTo (SCRIPT_BYTES + 1) (I.left input.old) (I.left input.new) }
-    ensures cause { StopsFor SCRIPT_BYTES (ports (I.left input.old) (I.left input.new) (I.faults input.old) (I.faults input.new) (O.written output.old) (O.written output.new) (O.faults output.old) (O.faults output.new)) result }
+    ensures carried { OnOk result ((fed : List ℕ) × (length fed ≤ script_bytes)
+        × TakesFrom (I.state input.old) (I.state input.new) fed
+        × PutsEntries (IsPlain (requests fed)) (O.state output.old) (O.state output.new)) }
+    ensures end { OnOk result (IsAtEnd (I.state input.new).left) }
+    ensures taken { TakesUpTo (script_bytes + 1) (I.state input.old) (I.state input.new) }
+    ensures cause { StopsFor script_bytes (ports (I.state input.old) (I.state input.new)
+        (O.state output.old) (O.state output.new)) result }
 {
-    let Ok(mut versions) = Versions::new(alloc) else {
-        return Err(Status::Memory);
-    };
+    let mut versions = Versions::new(alloc)?;
     put_margin(alloc, &versions, output)?;
     let reader = carry_pieces(alloc, &mut versions, input, output)?;
     carry_last(alloc, &mut versions, reader, output)?;
@@ -132,7 +140,8 @@ fn carry_script<I: Source, O: Sink>(
 /// Reads a script and carries out its requests one after the other (docs/PROGRAM.md, "plain"). The transcript is written
 /// as it grows.
 pub fn run_plain<I: Source, O: Sink>(alloc: Global, input: &mut I, output: &mut O) -> Status
-    ensures run { IsScriptRun (ports (I.left input.old) (I.left input.new) (I.faults input.old) (I.faults input.new) (O.written output.old) (O.written output.new) (O.faults output.old) (O.faults output.new)) result }
+    ensures run { IsScriptRun (ports (I.state input.old) (I.state input.new)
+        (O.state output.old) (O.state output.new)) result }
 {
     match carry_script(alloc, input, output) {
         Ok(()) => Status::Fine,

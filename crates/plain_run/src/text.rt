@@ -3,6 +3,7 @@
 ghost use Rattle.std.specs.Prelude.{◌≡◌, ◌⊎◌, ◌≤◌, ◌+◌, All, true, map, length, IfOk, IfErr, OnOk, MatchOption};
 ghost use Rattle.std.specs.Str.{chars};
 ghost use Rattle.std.specs.Str.Lines.{lines};
+ghost use Rattle.km_base.specs.Limits.{text_bytes, text_lines};
 ghost use Rattle.kumir_tree.specs.Lines.{lines_of, without_mark};
 ghost use Rattle.km_ports.specs.declared.status.Status.TheVariants as status;
 ghost use Rattle.plain_run.specs.Feeds.{HasNoFeed, weight};
@@ -37,7 +38,7 @@ fn width_of(line: &str) -> usize
 
 // The place of the first line with more characters than a line may have, counted from 1.
 fn first_long(lines: &[&str]) -> Option<u32>
-    requires { length lines.now ≤ TEXT_LINES }
+    requires { length lines.now ≤ text_lines }
     ensures { MatchOption result (AreShort (map (λ line. chars line.now) lines.now)) (λ number. IsFirstLong (map (λ line. chars line.now) lines.now) number) }
 {
     for (i, line) in lines.iter().enumerate() {
@@ -70,8 +71,9 @@ fn limited_lines(alloc: Global, text: &str) -> Result<Vec<&str>, Status>
     ensures within { OnOk result (AreLines (lines_of text.now)) }
     ensures refused { IfErr result (λ s. (s ≡ status.Memory) ⊎ ((excess : Excess) × (s ≡ status.TooLong excess) × Exceed (lines_of text.now) excess)) }
 {
-    let Ok(lines) = lines_of(alloc, unmarked(text)) else {
-        return Err(Status::Memory);
+    let lines = match lines_of(alloc, unmarked(text)) {
+        Ok(lines) => lines,
+        Err(refused) => return Err(Status::from(refused)),
     };
     match excess_of(lines.as_slice()) {
         Some(excess) => Err(Status::TooLong(excess)),
@@ -82,7 +84,7 @@ fn limited_lines(alloc: Global, text: &str) -> Result<Vec<&str>, Status>
 /// The lines of the bytes, where these are a text. Else the status is that of the first cause for which they are none,
 /// or `Memory`.
 pub fn text_lines(alloc: Global, bytes: &[u8]) -> Result<Vec<&str>, Status>
-    requires { length bytes.now ≤ TEXT_BYTES }
+    requires { length bytes.now ≤ text_bytes }
     ensures text { OnOk result (IsText bytes.now) }
     ensures lines { IfOk result (λ found. map (λ line. chars line.now) found.items ≡ lines_of bytes.now) }
     ensures sizes { IfOk result (λ found. All (λ line. length line.now ≤ length bytes.now + 1) found.items) }

@@ -2,3 +2,4 @@ pub mod Replies
 pub mod Reading
 pub mod Spellings
 pub mod FirstBad
+pub mod Cells

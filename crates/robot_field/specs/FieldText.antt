@@ -1,4 +1,4 @@
--- The text of a field, and the first line that is wrong. docs/LANGUAGE.md, "Field text".
+-- The text of a field, and the first line that is wrong. docs/PROGRAM.md, "Field text".
 use Rattle.std.specs.Prelude.{◌≡◌, ℕ, ◌+◌, ◌<◌, Bool, true, ◌&&◌, ◌⊎◌, List, [], ◌∷◌, nat_le, nat_lt, length, take, slice_index_or, encode_utf8_all}
 use Rattle.robot_field.specs.declared.text.MarkKind.{MarkKind}
 use Rattle.robot_field.specs.declared.text.MarkKind.TheVariants.{Paint, RightWall, BelowWall}

@@ -1,4 +1,4 @@
--- Numbers of a field text. docs/LANGUAGE.md, "Field text".
+-- Numbers of a field text. docs/PROGRAM.md, "Field text".
 use Rattle.std.specs.Prelude.{◌≡◌, ◌≢◌, ℕ, ◌^◌, ◌<◌, List, ◌∷◌, ◌++◌, Option, MatchOption}
 use Rattle.std.specs.Fmt.{decimal}
 

@@ -1,4 +1,4 @@
--- The text of a field, line by line. docs/LANGUAGE.md, "Field text".
+-- The text of a field, line by line. docs/PROGRAM.md, "Field text".
 use Rattle.std.specs.Prelude.{List, ℕ, ◌∷◌, ◌++◌, codes}
 use Rattle.std.specs.Fmt.{decimal}
 use Rattle.robot_field.specs.declared.text.MarkKind.{MarkKind}

@@ -127,7 +127,7 @@ impl Field {
         })
     }
 
-    /// The field that the lines give (docs/LANGUAGE.md, "Field text"). `BadField` comes exactly with the first bad line.
+    /// The field that the lines give (docs/PROGRAM.md, "Field text"). `BadField` comes exactly with the first bad line.
     #[tactic(auto, using(crate::proofs::FirstBad::answers_bad))]
     pub fn read(alloc: Global, lines: &[Line]) -> Result<Field, FieldRefusal>
         requires { length lines.now < 2 ^ 32 - 1 }

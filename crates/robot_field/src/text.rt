@@ -1,4 +1,4 @@
-//! The lines of a field text (docs/LANGUAGE.md, "Field text").
+//! The lines of a field text (docs/PROGRAM.md, "Field text").
 
 ghost use Rattle.std.specs.Prelude.{◌≡◌, ◌≢◌, ℕ, List, ◌++◌, ◌∷◌, MatchOption};
 ghost use Rattle.std.specs.Fmt.{decimal};

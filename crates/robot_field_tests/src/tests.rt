@@ -53,19 +53,14 @@ fn copy_keeps_its_own_paint(rt: HostRuntime) -> Result<(), Fail> {
     Ok(())
 }
 
-/// The line with this text, which has no line feed.
-fn line_of(alloc: Global, text: &str) -> Result<Line, AllocError> {
-    if text.contains('\n') {
-        return Err(AllocError);
-    }
-    Line::new(alloc, text)
-}
-
 /// The field of that text, line by line.
 fn field_of(alloc: Global, text: &str) -> Result<Field, FieldRefusal> {
     let mut lines = Vec::new(alloc);
     for line in text.lines() {
-        lines.push(line_of(alloc, line)?).map_err(AllocError::from)?;
+        let Ok(line) = Line::of_text(alloc, line) else {
+            return Err(FieldRefusal::Memory);
+        };
+        lines.push(line).map_err(AllocError::from)?;
     }
     if lines.len() >= 4_294_967_295 {
         return Err(FieldRefusal::Memory);

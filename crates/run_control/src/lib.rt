@@ -24,7 +24,7 @@ pub struct Busy;
 #[derive(Clone, Copy, Debug, PartialEq, Eq)]
 pub struct Idle;
 
-/// Why a pinned run does not begin (docs/LANGUAGE.md, "Transcript").
+/// Why a pinned run does not begin (docs/PROGRAM.md, "Transcript").
 #[derive(Clone, Copy, Debug, PartialEq, Eq)]
 pub enum BeginRefusal {
     /// Its version has faults.

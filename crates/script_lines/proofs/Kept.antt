@@ -20,8 +20,8 @@ at xs i = get_or xs i 0
 
 -- two texts that begin alike, each longer than n
 record Alike (n : ℕ) (xs ys : List ℕ) : Type 0 where
-  front : n < length xs
-  back : n < length ys
+  first_long : n < length xs
+  second_long : n < length ys
   zero_same : at xs 0 ≡ at ys 0
   one_same : at xs 1 ≡ at ys 1
   two_same : at xs 2 ≡ at ys 2
@@ -44,11 +44,11 @@ strip_long xs n h =
 
 strip_alike : (n : ℕ) (xs ys : List ℕ) → 4 ≤ n → Alike (n + 1) xs ys → Alike n (strip_carriage_return xs) (strip_carriage_return ys)
 strip_alike n xs ys h a =
-    let front = a.front in
-    let back = a.back in
+    let first_long = a.first_long in
+    let second_long = a.second_long in
     record {
-      front = strip_long xs n front;
-      back = strip_long ys n back;
+      first_long = strip_long xs n first_long;
+      second_long = strip_long ys n second_long;
       zero_same = strip_at xs 0 (omega arith) ∙ a.zero_same ∙ sym (strip_at ys 0 (omega arith));
       one_same = strip_at xs 1 (omega arith) ∙ a.one_same ∙ sym (strip_at ys 1 (omega arith));
       two_same = strip_at xs 2 (omega arith) ∙ a.two_same ∙ sym (strip_at ys 2 (omega arith));
@@ -57,8 +57,8 @@ strip_alike n xs ys h a =
 
 -- long lines with one first byte
 record Long (xs ys : List ℕ) : Type 0 where
-  front : 4096 < length xs
-  back : 4096 < length ys
+  first_long : 4096 < length xs
+  second_long : 4096 < length ys
   first : at xs 0 ≡ at ys 0
 
 abbrev has_mark : ℕ → ℕ → ℕ → Bool
@@ -72,10 +72,10 @@ cut_first : (t : Bool) (xs : List ℕ) → at (cond t (drop 3 xs) xs) 0 ≡ cond
 cut_first true xs = get_or-drop 3 xs 0 0
 cut_first false xs = refl
 
-abbrev unmarked : ℕ → List ℕ → Bool
-unmarked n xs = n == 1 && has_mark (at xs 0) (at xs 1) (at xs 2)
+abbrev drops_mark : ℕ → List ℕ → Bool
+drops_mark n xs = n == 1 && has_mark (at xs 0) (at xs 1) (at xs 2)
 
-numbered_cut : (n : ℕ) (xs : List ℕ) → numbered n xs ≡ cond (unmarked n xs) (drop 3 xs) xs
+numbered_cut : (n : ℕ) (xs : List ℕ) → numbered n xs ≡ cond (drops_mark n xs) (drop 3 xs) xs
 numbered_cut n xs =
     elim (n == 1) as (λ t. cond t (without_mark xs) xs ≡ cond (t && has_mark (at xs 0) (at xs 1) (at xs 2)) (drop 3 xs) xs) [
       | true ↦ refl
@@ -84,14 +84,14 @@ numbered_cut n xs =
 
 numbered_long : (n : ℕ) (xs ys : List ℕ) → Alike 4099 xs ys → Long (numbered n xs) (numbered n ys)
 numbered_long n xs ys a =
-    let p : unmarked n xs ≡ unmarked n ys = λ i. n == 1 && has_mark (a.zero_same i) (a.one_same i) (a.two_same i) in
+    let p : drops_mark n xs ≡ drops_mark n ys = λ i. n == 1 && has_mark (a.zero_same i) (a.one_same i) (a.two_same i) in
     record {
-      front = subst (λ z. 4096 < length z) (sym (numbered_cut n xs)) (cut_long (unmarked n xs) xs a.front);
-      back = subst (λ z. 4096 < length z) (sym (numbered_cut n ys)) (cut_long (unmarked n ys) ys a.back);
+      first_long = subst (λ z. 4096 < length z) (sym (numbered_cut n xs)) (cut_long (drops_mark n xs) xs a.first_long);
+      second_long = subst (λ z. 4096 < length z) (sym (numbered_cut n ys)) (cut_long (drops_mark n ys) ys a.second_long);
       first =
-          ap (λ z. at z 0) (numbered_cut n xs) ∙ cut_first (unmarked n xs) xs
+          ap (λ z. at z 0) (numbered_cut n xs) ∙ cut_first (drops_mark n xs) xs
           ∙ (λ i. cond (p i) (a.three_same i) (a.zero_same i))
-          ∙ sym (ap (λ z. at z 0) (numbered_cut n ys) ∙ cut_first (unmarked n ys) ys);
+          ∙ sym (ap (λ z. at z 0) (numbered_cut n ys) ∙ cut_first (drops_mark n ys) ys);
     }
 
 not_plain : (xs : List ℕ) → 4096 < length xs → is_plain xs ≡ false
@@ -107,9 +107,9 @@ long_line xs h =
 
 long_kept : (xs ys : List ℕ) → Long xs ys → IsKept ys xs
 long_kept xs ys l = record {
-  request = long_line xs l.front ∙ ap (λ c. cond (c == 35) Nothing (Alone Bad)) l.first ∙ sym (long_line ys l.back);
-  plain = not_plain xs l.front ∙ sym (not_plain ys l.back);
-  same = λ plain. absurd (false≢true (sym (not_plain xs l.front) ∙ plain));
+  request = long_line xs l.first_long ∙ ap (λ c. cond (c == 35) Nothing (Alone Bad)) l.first ∙ sym (long_line ys l.second_long);
+  plain = not_plain xs l.first_long ∙ sym (not_plain ys l.second_long);
+  same = λ plain. absurd (false≢true (sym (not_plain xs l.first_long) ∙ plain));
 }
 
 same_kept : (xs ys : List ℕ) → xs ≡ ys → IsKept ys xs
@@ -118,31 +118,31 @@ same_kept xs ys e = record { request = ap request_line e; plain = ap is_plain e;
 short_or_long : (n : ℕ) → (n ≤ 4101) ⊎ (4101 < n)
 short_or_long n = grind arith
 
-front_alike : (xs : List ℕ) → 4101 < length xs → Alike 4100 (take 4101 xs) xs
-front_alike xs h =
+prefix_alike : (xs : List ℕ) → 4101 < length xs → Alike 4100 (take 4101 xs) xs
+prefix_alike xs h =
     let long = length-take-le 4101 xs (omega arith) in
     record {
-      front = omega arith;
-      back = omega arith;
+      first_long = omega arith;
+      second_long = omega arith;
       zero_same = get_or-take 4101 xs 0 0 (omega arith);
       one_same = get_or-take 4101 xs 1 0 (omega arith);
       two_same = get_or-take 4101 xs 2 0 (omega arith);
       three_same = get_or-take 4101 xs 3 0 (omega arith);
     }
 
-front_alike_less : (xs : List ℕ) → 4101 < length xs → Alike 4099 (take 4101 xs) xs
-front_alike_less xs h =
-    let a = front_alike xs h in
-    let front = a.front in
-    let back = a.back in
-    record { front = omega arith; back = omega arith; zero_same = a.zero_same; one_same = a.one_same; two_same = a.two_same; three_same = a.three_same }
+prefix_alike_less : (xs : List ℕ) → 4101 < length xs → Alike 4099 (take 4101 xs) xs
+prefix_alike_less xs h =
+    let a = prefix_alike xs h in
+    let first_long = a.first_long in
+    let second_long = a.second_long in
+    record { first_long = omega arith; second_long = omega arith; zero_same = a.zero_same; one_same = a.one_same; two_same = a.two_same; three_same = a.three_same }
 
 -- a line that is ended
 pub kept_ended : (n : ℕ) (line : List ℕ) → IsKept (numbered n (strip_carriage_return line)) (numbered n (strip_carriage_return (take 4101 line)))
 kept_ended n line =
     ⊎_elim
     (λ (short : length line ≤ 4101). same_kept _ _ (ap (λ l. numbered n (strip_carriage_return l)) (take_all 4101 line short)))
-    (λ (long : 4101 < length line). long_kept _ _ (numbered_long n _ _ (strip_alike 4099 (take 4101 line) line (omega arith) (front_alike line long))))
+    (λ (long : 4101 < length line). long_kept _ _ (numbered_long n _ _ (strip_alike 4099 (take 4101 line) line (omega arith) (prefix_alike line long))))
     (short_or_long (length line))
 
 -- the last line, which no line feed ends
@@ -150,5 +150,5 @@ pub kept_last : (n : ℕ) (line : List ℕ) → IsKept (numbered n line) (number
 kept_last n line =
     ⊎_elim
     (λ (short : length line ≤ 4101). same_kept _ _ (ap (numbered n) (take_all 4101 line short)))
-    (λ (long : 4101 < length line). long_kept _ _ (numbered_long n _ _ (front_alike_less line long)))
+    (λ (long : 4101 < length line). long_kept _ _ (numbered_long n _ _ (prefix_alike_less line long)))
     (short_or_long (length line))

@@ -6,3 +6,4 @@ pub mod Gathering
 pub mod Ends
 pub mod Kept
 pub mod States
+pub mod WholeGrows

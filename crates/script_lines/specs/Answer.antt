@@ -1,13 +1,13 @@
 -- The answer rule: which entry answers a request, where these requests were answered before and these entries stand
--- before. docs/LANGUAGE.md, "Transcript".
+-- before. docs/PROGRAM.md, "Transcript".
 use Rattle.std.specs.Prelude.{ℕ, ◌≡◌, ◌+◌, ◌⊎◌, Bool, true, false, List, [], ◌∷◌, ◌++◌, Result, Ok, Err}
 use Rattle.std.specs.List.{Contains, count_by, fold}
 use Rattle.kumir_values.specs.declared.run_end.EndKind.{EndKind}
 use Rattle.margins.specs.declared.margin.Mark.{Mark}
 use Rattle.text_versions.specs.declared.edit.Edit.{Edit}
-use Rattle.text_versions.specs.declared.limits.TheConstants.{TEXT_LIMITS}
 use Rattle.text_versions.specs.declared.versions.ApplyRefusal.{ApplyRefusal}
 use Rattle.text_versions.specs.declared.versions.ApplyRefusal.TheVariants as refusal
+use Rattle.text_versions.specs.Texts.{text_limits}
 use Rattle.text_versions.specs.Edits.{answer_to}
 use Rattle.script_lines.specs.declared.request.Ask.{Ask}
 use Rattle.script_lines.specs.declared.request.Ask.TheVariants as ask
@@ -23,7 +23,7 @@ with_answer edits e (Ok version) = edits ++ e ∷ []
 with_answer edits e (Err why) = edits
 
 abbrev pub with_ask : List Edit → Ask → List Edit
-with_ask edits (ask.Edit e) = with_answer edits e (answer_to TEXT_LIMITS edits e)
+with_ask edits (ask.Edit e) = with_answer edits e (answer_to text_limits edits e)
 with_ask edits _ = edits
 
 -- the edits of these requests that were accepted, in order
@@ -75,7 +75,7 @@ SaysOutcome before (Err refusal.Memory) e = ⊥
 
 -- the entry answers what the request at that line asks for; runs and fields are not carried out yet
 abbrev pub AnswersAsk : List Request → List Entry → ℕ → Ask → Entry → Type 0
-AnswersAsk earlier before line (ask.Edit edit) e = SaysOutcome before (answer_to TEXT_LIMITS (accepted earlier) edit) e
+AnswersAsk earlier before line (ask.Edit edit) e = SaysOutcome before (answer_to text_limits (accepted earlier) edit) e
 AnswersAsk earlier before line (ask.Field lines) e = e ≡ entry.Bad line
 AnswersAsk earlier before line (ask.Run inputs) e = e ≡ entry.Bad line
 AnswersAsk earlier before line ask.Stop e = ((run : ℕ) × IsOpen before run × (e ≡ entry.Stop run)) ⊎ (NoneOpen before × (e ≡ entry.StopIdle))

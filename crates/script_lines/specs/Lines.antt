@@ -1,4 +1,4 @@
--- The lines of a script. docs/LANGUAGE.md, "Script".
+-- The lines of a script. docs/PROGRAM.md, "Script".
 use Rattle.std.specs.Prelude.{ℕ, ◌+◌, ◌==◌, ◌&&◌, if◌then◌else◌, Bool, List, [], ◌∷◌, ◌++◌, length, nat_le}
 use Rattle.std.specs.Str.{is_utf8}
 use Rattle.std.specs.Str.Lines.{strip_carriage_return}

@@ -1,4 +1,4 @@
--- The requests of a script. docs/LANGUAGE.md, "Script".
+-- The requests of a script. docs/PROGRAM.md, "Script".
 use Rattle.std.specs.Prelude.{ℕ, zero, suc, ◌+◌, if◌then◌else◌, List, [], ◌∷◌, ◌++◌, length, take, map, nat_lt, nat_le}
 use Rattle.std.specs.List.{list_all}
 use Rattle.std.specs.Str.{chars}

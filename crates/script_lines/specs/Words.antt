@@ -1,4 +1,4 @@
--- Request lines. docs/LANGUAGE.md, "Script".
+-- Request lines. docs/PROGRAM.md, "Script".
 use Rattle.std.specs.Prelude.{ℕ, ℤ, ◌==◌, ◌&&◌, ◌||◌, if◌then◌else◌, Bool, true, false, Option, Some, None, List, [], ◌∷◌, length, nat_le, slice_index, codes}
 use Rattle.std.specs.List.{slice_split}
 use Rattle.std.specs.Str.{bytes_eq}

@@ -2,12 +2,12 @@
 #![tactic(auto)]
 
 mod gathered;
+mod laws;
 mod read;
 mod reader;
 mod request;
 mod state;
-#[cfg(test)]
-mod tests;
 
+pub use laws::whole_grows;
 pub use reader::ScriptReader;
 pub use request::{Ask, Request, Requests};

@@ -14,7 +14,7 @@ use std::marker::Model;
 #[derive(Drop)]
 pub struct ScriptReader {
     state: State,
-    failed: bool,
+    has_failed: bool,
     alloc: Global,
 }
 
@@ -24,9 +24,9 @@ impl Model for ScriptReader {
 
     ghost Value = { Option (List ℕ) };
 
-    ghost view = { λ r. if r.failed then None else Some r.state.fed };
+    ghost view = { λ r. if r.has_failed then None else Some r.state.fed };
 
-    ghost invariant = { λ r. r.failed ≡ false → IsState r.state };
+    ghost invariant = { λ r. r.has_failed ≡ false → IsState r.state };
 }
 
 impl ScriptReader {
@@ -36,12 +36,12 @@ impl ScriptReader {
     {
         ScriptReader {
             state: State::new(alloc),
-            failed: false,
+            has_failed: false,
             alloc,
         }
     }
 
-    /// Takes the next piece of the script, and answers the requests that it completes (docs/LANGUAGE.md, "Script").
+    /// Takes the next piece of the script, and answers the requests that it completes (docs/PROGRAM.md, "Script").
     /// However a script is cut into pieces, the requests are those of the script. After want of memory the reader only
     /// answers want of memory.
     pub fn feed(&mut self, piece: &[u8]) -> Result<Requests, Memory>
@@ -51,13 +51,13 @@ impl ScriptReader {
         ensures failed { self.old ≡ None → IsErr result }
         ensures fails { OnErr result (self.new ≡ None) }
     {
-        if self.failed {
+        if self.has_failed {
             return Err(Memory);
         }
         match take_piece(self.alloc, &mut self.state, piece) {
             Ok(requests) => Ok(requests),
             Err(_) => {
-                self.failed = true;
+                self.has_failed = true;
                 Err(Memory)
             }
         }
@@ -69,7 +69,7 @@ impl ScriptReader {
         ensures requests { (fed : List ℕ) → self ≡ Some fed → IfOk result (λ r. requests fed ≡ whole fed ++ answered r) }
         ensures failed { self ≡ None → IsErr result }
     {
-        if self.failed {
+        if self.has_failed {
             return Err(Memory);
         }
         let ScriptReader { state, alloc, .. } = self;

@@ -5,7 +5,7 @@ use kumir_values::Values;
 use sqlite_items::Items;
 use text_versions::Edit;
 
-/// What a request asks for (docs/LANGUAGE.md, "Script").
+/// What a request asks for (docs/PROGRAM.md, "Script").
 #[derive(Debug, Drop)]
 pub enum Ask {
     /// Another version of the text.

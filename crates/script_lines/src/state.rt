@@ -10,7 +10,7 @@ use crate::gathered::{Gathered, take_line};
 use crate::request::{Ask, Request, Requests};
 use km_base::limits::SCRIPT_LINE_BYTES;
 use km_base::{Memory, Noted};
-use std::alloc::Global;
+use std::alloc::{AllocError, Global};
 
 /// How many bytes of a line are kept: more than a line at its limit, a leading mark and a carriage return take.
 const KEPT_BYTES: usize = SCRIPT_LINE_BYTES + 5;
@@ -48,15 +48,12 @@ fn numbered(number: u32, line: &[u8]) -> &[u8]
 }
 
 /// Puts the byte at the end of the line, if the line is not overlong.
-fn keep_byte(line: &mut Vec<u8>, byte: u8) -> Result<(), Memory>
+fn keep_byte(line: &mut Vec<u8>, byte: u8) -> Result<(), AllocError>
     requires { length line.old.items ≤ 4101 }
     ensures { OnOk result (line.new.items ≡ take 4101 (line.old.items ++ byte ∷ [])) }
 {
     if line.as_slice().len() < KEPT_BYTES {
-        match line.push(byte) {
-            Ok(()) => {}
-            Err(_) => return Err(Memory),
-        }
+        line.push(byte)?;
     }
     Ok(())
 }

@@ -3,7 +3,9 @@ use Rattle.std.specs.Prelude.{ℕ, ◌+◌, ◌-◌, ◌&&◌, Bool, if◌then�
 use Rattle.text_versions.specs.declared.limits.Limits.{Limits}
 use Rattle.text_versions.specs.declared.edit.Edit.{Edit}
 use Rattle.text_versions.specs.declared.versions.ApplyRefusal.{ApplyRefusal}
-use Rattle.text_versions.specs.declared.versions.ApplyRefusal.TheVariants.{Range, TooLong, TooMany}
+use Rattle.text_versions.specs.declared.versions.ApplyRefusal.TheVariants.{Range, TooLong, TooMany, Memory}
+use Rattle.text_versions.specs.declared.text.TextRefusal.{TextRefusal}
+use Rattle.text_versions.specs.declared.text.TextRefusal.TheVariants as text
 use Rattle.text_versions.specs.Texts.{is_within}
 
 -- the lines that the edit replaces are lines of the text
@@ -30,3 +32,8 @@ answer_to limits edits e =
     then (if nat_le limits.versions (length edits) then Err TooMany else Ok (length edits + 1))
     else Err TooLong)
     else Err Range
+
+-- the refusal of an edit whose text is refused
+abbrev pub refused_for : TextRefusal → ApplyRefusal
+refused_for text.TooLong = TooLong
+refused_for text.Memory = Memory

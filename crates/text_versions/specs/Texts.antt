@@ -2,11 +2,16 @@
 use Rattle.std.specs.Prelude.{◌≡◌, ℕ, ◌+◌, ◌-◌, ◌<◌, ◌&&◌, Bool, List, length, nat_le, sum_by, Result, Ok, Err, MatchResult, ◌≢◌}
 use Rattle.std.specs.List.{list_all}
 use Rattle.std.specs.Str.{encode_utf8_all}
+use Rattle.km_base.specs.Limits.{text_bytes, text_lines, line_characters, newest_version}
 use Rattle.text_versions.specs.declared.limits.Limits.{Limits}
 
 -- the bytes of the lines, and one byte between each two neighbouring lines
 abbrev pub byte_count : List (List ℕ) → ℕ
 byte_count lines = sum_by (λ l. length (encode_utf8_all l) + 1) lines - 1
+
+-- the limits of the texts of a session. docs/PROGRAM.md, "Limits".
+abbrev pub text_limits : Limits
+text_limits = record { bytes = text_bytes; lines = text_lines; characters = line_characters; versions = newest_version }
 
 -- no limit of the text is passed
 abbrev pub is_within : Limits → List (List ℕ) → Bool

@@ -3,8 +3,6 @@
 
 mod edit;
 mod limits;
-#[cfg(test)]
-mod tests;
 mod text;
 mod versions;
 

@@ -1,12 +1,14 @@
 //! Texts.
 ghost use Rattle.std.specs.Prelude.{◌≡◌, ◌-◌, ◌+◌, ◌++◌, take, drop, ◌<◌, ◌≤◌, ◌⊎◌, [], true, length, slice_get, Some, Ok, Err, MatchOption, IfOk, OnOk, if◌then◌else◌};
-ghost use Rattle.text_versions.specs.Texts.{IsText, IsUnless, is_within};
+ghost use Rattle.std.specs.Arc.{arc_value};
+ghost use Rattle.text_versions.specs.Texts.{IsText, IsUnless, is_within, text_limits};
 
 use crate::limits::{Limits, TEXT_LIMITS, is_within};
 use km_base::Memory;
 use kumir_tree::{Line, Lines};
-use std::alloc::Global;
+use std::alloc::{AllocError, Global};
 use std::marker::Model;
+use std::sync::Arc;
 
 /// A text, seen as the list of its lines, each as the list of its characters. It has fewer than 4,294,967,295 lines and
 /// fewer than 4,294,967,295 bytes, with one byte counted between each two neighbouring lines.
@@ -58,7 +60,8 @@ impl Text {
     pub(crate) fn within(_alloc: Global, lines: Lines, limits: Limits) -> Result<Text, TextRefusal>
         requires fewer_lines { limits.lines < 4294967295 }
         requires fewer_bytes { limits.bytes < 4294967295 }
-        ensures { IsUnless TextRefusal.Memory (if is_within limits lines then Ok lines else Err TextRefusal.TooLong) result }
+        ensures { IsUnless TextRefusal.Memory
+            (if is_within limits lines then Ok lines else Err TextRefusal.TooLong) result }
     {
         if is_within(lines.as_slice(), limits) {
             Ok(Text { lines })
@@ -69,11 +72,19 @@ impl Text {
 
     /// The text of the lines. `TooLong` comes exactly where a limit of the text is passed.
     pub fn from_lines(alloc: Global, lines: Lines) -> Result<Text, TextRefusal>
-        ensures answer { IsUnless TextRefusal.Memory (if is_within TEXT_LIMITS lines then Ok lines else Err TextRefusal.TooLong) result }
+        ensures answer { IsUnless TextRefusal.Memory
+            (if is_within text_limits lines then Ok lines else Err TextRefusal.TooLong) result }
         ensures text { IfOk result (λ t. t ≡ lines) }
-        ensures within { OnOk result (is_within TEXT_LIMITS lines ≡ true) }
+        ensures within { OnOk result (is_within text_limits lines ≡ true) }
     {
         Text::within(alloc, lines, TEXT_LIMITS)
+    }
+
+    /// The text, to be shared.
+    pub fn shared(self, alloc: Global) -> Result<Arc<Text>, AllocError>
+        ensures { IfOk result (λ shared. arc_value shared ≡ self) }
+    {
+        Ok(Arc::new(alloc, self)?)
     }
 
     /// The lines in order.
@@ -94,7 +105,9 @@ impl Text {
 
     /// The line with that number, counted from 1. None comes exactly outside 1 to the count.
     pub fn line(&self, number: u32) -> Option<&Line>
-        ensures { MatchOption result ((number ≡ 0) ⊎ (length self.now < number)) (λ l. (1 ≤ number) × (number ≤ length self.now) × (slice_get self.now (number - 1) ≡ Some l.now)) }
+        ensures { MatchOption result ((number ≡ 0) ⊎ (length self.now < number))
+            (λ l. (1 ≤ number) × (number ≤ length self.now)
+            × (slice_get self.now (number - 1) ≡ Some l.now)) }
     {
         if number == 0 {
             return None;

@@ -1,7 +1,7 @@
 //! The versions of a text.
 ghost use Rattle.std.specs.Prelude.{◌≡◌, ◌+◌, ◌<◌, true, [], ◌∷◌, ◌++◌, length, take, drop, IfOk, OnOk, OnErr};
 ghost use Rattle.std.specs.Arc.{arc_value};
-ghost use Rattle.text_versions.specs.Texts.{IsText, IsUnless, is_within};
+ghost use Rattle.text_versions.specs.Texts.{IsText, IsUnless, is_within, text_limits};
 ghost use Rattle.text_versions.specs.Edits.{is_in_range, edited, text_after, version, answer_to};
 
 use crate::edit::Edit;
@@ -9,7 +9,7 @@ use crate::limits::{Limits, TEXT_LIMITS};
 use crate::text::{Text, TextRefusal, copy_lines};
 use km_base::{Memory, Noted};
 use kumir_tree::{Line, Lines};
-use std::alloc::Global;
+use std::alloc::{AllocError, Global};
 use std::marker::Model;
 use std::sync::Arc;
 
@@ -58,6 +58,31 @@ impl From<Memory> for ApplyRefusal {
     }
 }
 
+impl From<AllocError> for ApplyRefusal {
+    ghost use Rattle.std.specs.Prelude.{◌≡◌};
+    ghost use Rattle.text_versions.specs.declared.versions.ApplyRefusal.TheVariants.{Memory};
+
+    ghost from_gives = { λ m e. e ≡ Memory };
+
+    fn from(_refused: AllocError) -> ApplyRefusal {
+        ApplyRefusal::Memory
+    }
+}
+
+impl From<TextRefusal> for ApplyRefusal {
+    ghost use Rattle.std.specs.Prelude.{◌≡◌};
+    ghost use Rattle.text_versions.specs.Edits.{refused_for};
+
+    ghost from_gives = { λ refusal e. e ≡ refused_for refusal };
+
+    fn from(refusal: TextRefusal) -> ApplyRefusal {
+        match refusal {
+            TextRefusal::TooLong => ApplyRefusal::TooLong,
+            TextRefusal::Memory => ApplyRefusal::Memory,
+        }
+    }
+}
+
 /// The lines as the edit leaves them.
 fn edited_lines(alloc: Global, lines: &[Line], edit: &Edit) -> Result<Lines, Memory>
     requires { is_in_range lines.now edit.now ≡ true }
@@ -84,12 +109,9 @@ impl Versions {
     pub fn new(alloc: Global) -> Result<Versions, Memory>
         ensures { IfOk result (λ v. v ≡ []) }
     {
-        let Ok(text) = Arc::new(alloc, Text::empty(alloc)) else {
-            return Err(Memory);
-        };
         Ok(Versions {
             newest: 0,
-            text,
+            text: Text::empty(alloc).shared(alloc)?,
             edits: Noted::new(),
             alloc,
         })
@@ -112,7 +134,7 @@ impl Versions {
     /// Makes the next version of the text by the edit, and answers its number. Where more than one refusal has its
     /// cause, the first in the order of `ApplyRefusal` comes. Every refusal leaves all as it was.
     pub fn apply(&mut self, edit: Edit) -> Result<u32, ApplyRefusal>
-        ensures answer { IsUnless ApplyRefusal.Memory (answer_to TEXT_LIMITS self.old edit) result }
+        ensures answer { IsUnless ApplyRefusal.Memory (answer_to text_limits self.old edit) result }
         ensures accepted { OnOk result (self.new ≡ self.old ++ edit ∷ []) }
         ensures refused { OnErr result (self.new ≡ self.old) }
     {
@@ -130,18 +152,11 @@ impl Versions {
             return Err(ApplyRefusal::Range);
         }
         let lines = edited_lines(self.alloc, self.text.lines(), &edit)?;
-        let text = match Text::within(self.alloc, lines, limits) {
-            Ok(text) => text,
-            Err(TextRefusal::TooLong) => return Err(ApplyRefusal::TooLong),
-            Err(TextRefusal::Memory) => return Err(ApplyRefusal::Memory),
-        };
+        let text = Text::within(self.alloc, lines, limits)?;
         if self.newest >= limits.versions {
             return Err(ApplyRefusal::TooMany);
         }
-        let Ok(text) = Arc::new(self.alloc, text) else {
-            return Err(ApplyRefusal::Memory);
-        };
-        self.text = text;
+        self.text = text.shared(self.alloc)?;
         self.edits.note(&edit);
         self.newest += 1;
         Ok(self.newest)

@@ -3,4 +3,4 @@ pub mod Heads
 pub mod Escapes
 pub mod Texts
 pub mod OneLine
-pub mod Fronts
+pub mod OneReading

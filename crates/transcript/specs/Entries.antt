@@ -7,7 +7,7 @@ use Rattle.transcript.specs.Print.{IsEntry, IsPrintable, printed_entry, print}
 abbrev pub IsShown : Entry → Type 0
 IsShown e = IsEntry e × IsPrintable e
 
--- the print of no entry stands at the front of the bytes
+-- the print of no entry is a prefix of the bytes
 abbrev pub BeginsNoEntry : List ℕ → Type 0
 BeginsNoEntry bytes = (e : Entry) → IsShown e → (after : List ℕ) → bytes ≢ printed_entry e ++ after
 

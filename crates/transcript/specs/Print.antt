@@ -1,4 +1,4 @@
--- How a transcript prints, as bytes. docs/LANGUAGE.md, "Transcript".
+-- How a transcript prints, as bytes. docs/PROGRAM.md, "Transcript".
 use Rattle.std.specs.Prelude.{ℕ, ◌≡◌, ◌<◌, ◌^◌, ◌≢◌, ◌==◌, if◌then◌else◌, true, false, ⊤, List, [], ◌∷◌, ◌++◌, codes}
 use Rattle.std.specs.List.{flat_map}
 use Rattle.std.specs.Str.{all_scalars}

@@ -57,7 +57,7 @@ fn read_bytes(alloc: Global, line: &[u8]) -> Result<Option<Entry>, Memory>
     }
 }
 
-/// The entry whose print stands at the front, and what follows it. None comes exactly where there is none.
+/// The entry whose print is a prefix of the bytes, and what follows it. None comes exactly where there is none.
 fn read_first(alloc: Global, bytes: &[u8]) -> Result<Option<(Entry, &[u8])>, Memory>
     ensures { IfOk result (λ r. MatchOption r (BeginsNoEntry bytes.now) (λ p. IsShown p.0 × (bytes.now ≡ printed_entry p.0 ++ p.1.now))) }
 {
@@ -77,7 +77,7 @@ fn push_entry(entries: &mut Entries, entry: Entry) -> Result<(), Memory>
     Ok(())
 }
 
-/// The entries whose print the bytes are (docs/LANGUAGE.md, "Transcript"). `NotEntry` comes exactly where there are
+/// The entries whose print the bytes are (docs/PROGRAM.md, "Transcript"). `NotEntry` comes exactly where there are
 /// none, with the first line that no entry prints; a last part without a line feed counts as a line.
 pub fn read_entries(alloc: Global, bytes: &[u8]) -> Result<Entries, TranscriptRefusal>
     requires { length bytes.now < 4294967295 }

@@ -6,7 +6,7 @@ use margins::Margin;
 use performer_kit::{PenCommand, Reply, RobotCommand};
 use sqlite_items::Items;
 
-/// One entry of a transcript (docs/LANGUAGE.md, "Transcript"). Versions, runs and commands of a run are numbered.
+/// One entry of a transcript (docs/PROGRAM.md, "Transcript"). Versions, runs and commands of a run are numbered.
 #[derive(Debug, Drop)]
 pub enum Entry {
     /// An edit made this version.

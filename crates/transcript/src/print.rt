@@ -184,7 +184,7 @@ pub fn push_line(alloc: Global, out: &mut String, entry: &Entry) -> Result<(), M
     Ok(())
 }
 
-/// The entry as the transcript shows it, a line with its end (docs/LANGUAGE.md, "Transcript"). Its end is another than
+/// The entry as the transcript shows it, a line with its end (docs/PROGRAM.md, "Transcript"). Its end is another than
 /// want of memory, and its reply is one that its performer can have.
 pub fn print_entry(alloc: Global, entry: &Entry) -> Result<String, Memory>
     requires { IsPrintable entry.now }

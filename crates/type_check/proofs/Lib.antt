@@ -8,3 +8,4 @@ pub mod Marked
 pub mod FirstUnit
 pub mod OneMargin
 pub mod EachHasMargin
+pub mod FormKind

@@ -46,23 +46,50 @@ abbrev pub kind_where : Bool → Kind → Option Kind
 kind_where true k = Some k
 kind_where false k = None
 
-abbrev pub of_two : Kind → Option Kind → Option Kind → Kind → Option Kind
-of_two k a b result = kind_where (is_kind k a && is_kind k b) result
+-- both are there and of this kind
+abbrev pub are_both : Kind → Option Kind → Option Kind → Bool
+are_both k a b = is_kind k a && is_kind k b
+
+-- what an operator takes
+abbrev pub operands_fit : Op → Option Kind → Option Kind → Bool
+operands_fit op.Or a b = are_both Truth a b
+operands_fit op.And a b = are_both Truth a b
+operands_fit op.Equal a b = are_same a b
+operands_fit op.NotEqual a b = are_same a b
+operands_fit op.Less a b = are_both Whole a b
+operands_fit op.Greater a b = are_both Whole a b
+operands_fit op.LessOrEqual a b = are_both Whole a b
+operands_fit op.GreaterOrEqual a b = are_both Whole a b
+operands_fit op.Plus a b = are_both Whole a b
+operands_fit op.Minus a b = are_both Whole a b
+operands_fit op.Times a b = are_both Whole a b
+operands_fit op.Power a b = are_both Whole a b
+
+-- and what it gives
+abbrev pub operator_kind : Op → Kind
+operator_kind op.Or = Truth
+operator_kind op.And = Truth
+operator_kind op.Equal = Truth
+operator_kind op.NotEqual = Truth
+operator_kind op.Less = Truth
+operator_kind op.Greater = Truth
+operator_kind op.LessOrEqual = Truth
+operator_kind op.GreaterOrEqual = Truth
+operator_kind op.Plus = Whole
+operator_kind op.Minus = Whole
+operator_kind op.Times = Whole
+operator_kind op.Power = Whole
 
 -- an operator over operands of these kinds
 abbrev pub binary_kind : Op → Option Kind → Option Kind → Option Kind
-binary_kind op.Or a b = of_two Truth a b Truth
-binary_kind op.And a b = of_two Truth a b Truth
-binary_kind op.Equal a b = kind_where (are_same a b) Truth
-binary_kind op.NotEqual a b = kind_where (are_same a b) Truth
-binary_kind op.Less a b = of_two Whole a b Truth
-binary_kind op.Greater a b = of_two Whole a b Truth
-binary_kind op.LessOrEqual a b = of_two Whole a b Truth
-binary_kind op.GreaterOrEqual a b = of_two Whole a b Truth
-binary_kind op.Plus a b = of_two Whole a b Whole
-binary_kind op.Minus a b = of_two Whole a b Whole
-binary_kind op.Times a b = of_two Whole a b Whole
-binary_kind op.Power a b = of_two Whole a b Whole
+binary_kind o a b = kind_where (operands_fit o a b) (operator_kind o)
+
+-- what built-ins give, and tests of the Robot
+abbrev pub built_in_kind : Kind
+built_in_kind = Whole
+
+abbrev pub test_kind : Kind
+test_kind = Truth
 
 -- ---- what stands as an index or as an argument
 
@@ -115,8 +142,8 @@ where_gives false k = None
 abbrev pub answer_kind : Option (Callee Head) → List Argument → Option Kind
 answer_kind None arguments = None
 answer_kind (Some (Called h)) arguments = where_gives (arguments_fit h.params arguments) h.gives
-answer_kind (Some (BuiltInCall b)) arguments = kind_where (are_numbers (built_in_arity b) arguments) Whole
-answer_kind (Some (RobotCall c)) arguments = kind_where (is_test c && are_numbers 0 arguments) Truth
+answer_kind (Some (BuiltInCall b)) arguments = kind_where (are_numbers (built_in_arity b) arguments) built_in_kind
+answer_kind (Some (RobotCall c)) arguments = kind_where (is_test c && are_numbers 0 arguments) test_kind
 answer_kind (Some (PenCall s)) arguments = None
 
 -- A call as a piece of its own: of an algorithm without a kind or a command that is no test.
@@ -195,3 +222,33 @@ abbrev mutual
   pub arguments : Among → Trees → List Argument
   arguments s no_trees = []
   arguments s (e then es) = record { value = kind_of s e; place = is_place s.names e; table = whole_table s.names e } ∷ arguments s es
+
+-- ---- the kind that the form of an expression tells, whether its rules hold or not; where they hold it is the kind
+
+-- of what is called
+abbrev pub called_kind : Option (Callee Head) → Option Kind
+called_kind None = None
+called_kind (Some (Called h)) = h.gives
+called_kind (Some (BuiltInCall b)) = Some built_in_kind
+called_kind (Some (RobotCall c)) = Some test_kind
+called_kind (Some (PenCall s)) = None
+
+abbrev pub named_kind : Option Variable → Option (Callee Head) → Option Kind
+named_kind None found = called_kind found
+named_kind (Some v) found = Some v.kind
+
+abbrev pub variable_kind : Option Variable → Option Kind
+variable_kind None = None
+variable_kind (Some v) = Some v.kind
+
+abbrev pub form_kind : Among → Tree → Option Kind
+form_kind s (t.Number n) = Some Whole
+form_kind s (t.Truth b) = Some Truth
+form_kind s t.Answer = s.gives
+form_kind s (t.Named x) = named_kind (variable s.names x) (s.find x)
+form_kind s (t.Element x es) = variable_kind (variable s.names x)
+form_kind s (t.Call f es) = called_kind (s.find f)
+form_kind s (t.Plus a) = Some Whole
+form_kind s (t.Minus a) = Some Whole
+form_kind s (t.Not a) = Some Truth
+form_kind s (t.Binary o a b) = Some (operator_kind o)

@@ -52,11 +52,12 @@ fn kind_where(holds: bool, kind: Kind) -> Option<Kind>
     if holds { Some(kind) } else { None }
 }
 
-fn of_two(kind: Kind, a: Option<Kind>, b: Option<Kind>, result_kind: Kind) -> Option<Kind>
-    ensures { result ≡ k.of_two kind a b result_kind }
+/// Whether both are there and of this kind.
+fn are_both(kind: Kind, a: Option<Kind>, b: Option<Kind>) -> bool
+    ensures { result ≡ k.are_both kind a b }
 {
     let right = is_kind(kind, b);
-    kind_where(is_kind(kind, a) && right, result_kind)
+    is_kind(kind, a) && right
 }
 
 fn where_gives(holds: bool, kind: Option<Kind>) -> Option<Kind>
@@ -65,24 +66,36 @@ fn where_gives(holds: bool, kind: Option<Kind>) -> Option<Kind>
     if holds { kind } else { None }
 }
 
+/// Whether an operator takes operands of these kinds.
+fn operands_fit(op: Op, a: Option<Kind>, b: Option<Kind>) -> bool
+    ensures { result ≡ k.operands_fit op a b }
+{
+    match op {
+        Op::Or | Op::And => are_both(Kind::Truth, a, b),
+        Op::Equal | Op::NotEqual => are_same(a, b),
+        Op::Less | Op::Greater | Op::LessOrEqual | Op::GreaterOrEqual => {
+            are_both(Kind::Whole, a, b)
+        }
+        Op::Plus | Op::Minus | Op::Times | Op::Power => are_both(Kind::Whole, a, b),
+    }
+}
+
+/// The kind of what an operator gives.
+pub fn operator_kind(op: Op) -> Kind
+    ensures { result ≡ k.operator_kind op }
+{
+    match op {
+        Op::Or | Op::And | Op::Equal | Op::NotEqual => Kind::Truth,
+        Op::Less | Op::Greater | Op::LessOrEqual | Op::GreaterOrEqual => Kind::Truth,
+        Op::Plus | Op::Minus | Op::Times | Op::Power => Kind::Whole,
+    }
+}
+
 /// The kind of an operator over operands of these kinds.
 fn binary_kind(op: Op, a: Option<Kind>, b: Option<Kind>) -> Option<Kind>
     ensures { result ≡ k.binary_kind op a b }
 {
-    match op {
-        Op::Or => of_two(Kind::Truth, a, b, Kind::Truth),
-        Op::And => of_two(Kind::Truth, a, b, Kind::Truth),
-        Op::Equal => kind_where(are_same(a, b), Kind::Truth),
-        Op::NotEqual => kind_where(are_same(a, b), Kind::Truth),
-        Op::Less => of_two(Kind::Whole, a, b, Kind::Truth),
-        Op::Greater => of_two(Kind::Whole, a, b, Kind::Truth),
-        Op::LessOrEqual => of_two(Kind::Whole, a, b, Kind::Truth),
-        Op::GreaterOrEqual => of_two(Kind::Whole, a, b, Kind::Truth),
-        Op::Plus => of_two(Kind::Whole, a, b, Kind::Whole),
-        Op::Minus => of_two(Kind::Whole, a, b, Kind::Whole),
-        Op::Times => of_two(Kind::Whole, a, b, Kind::Whole),
-        Op::Power => of_two(Kind::Whole, a, b, Kind::Whole),
-    }
+    kind_where(operands_fit(op, a, b), operator_kind(op))
 }
 
 fn is_table(variable: Variable) -> bool

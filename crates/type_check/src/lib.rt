@@ -18,6 +18,6 @@ mod uses;
 pub use check::{UnitFaults, check_unit};
 pub use clean::{Clean, clean_of};
 pub use first::first_header;
-pub use laws::{faults_depend_on_asked_names, one_margin};
+pub use laws::{faults_depend_on_asked_names, form_tells_kind, one_margin};
 pub use margin::margin_of;
 pub use refusal::CleanRefusal;

@@ -14,7 +14,7 @@ use Rattle.std.proofs.lemmas.List.{map-append, length-map, length-reverse, rever
 use Rattle.std.proofs.Common.{length}
 use Rattle.kumir_tree.specs.Parts.{head_of}
 use Rattle.kumir_tree.specs.Units.{some_claim}
-use Rattle.unit_grammar.specs.declared.states.Top.{Top}
+use Rattle.unit_grammar.specs.declared.heads.Top.{Top}
 use Rattle.unit_grammar.specs.Views.{arm_of, frame_of, stack_of, top_of, body_of, ended}
 use Rattle.unit_grammar.specs.Machine as machine
 use Rattle.unit_grammar.specs.Stages.{open_blocks}

@@ -10,14 +10,14 @@ use Rattle.unit_grammar.specs.declared.frames.LoopHead.{LoopHead}
 use Rattle.unit_grammar.specs.declared.frames.LoopHead.TheVariants as l
 use Rattle.unit_grammar.specs.declared.frames.End.{End}
 use Rattle.unit_grammar.specs.declared.frames.End.TheVariants as e
-use Rattle.unit_grammar.specs.declared.states.Plain.{Plain}
-use Rattle.unit_grammar.specs.declared.states.Plain.TheVariants as s
-use Rattle.unit_grammar.specs.declared.states.Inner.{Inner}
-use Rattle.unit_grammar.specs.declared.states.Inner.TheVariants as i
-use Rattle.unit_grammar.specs.declared.states.Outer.{Outer}
-use Rattle.unit_grammar.specs.declared.states.Outer.TheVariants as o
-use Rattle.unit_grammar.specs.declared.states.Role.{Role}
-use Rattle.unit_grammar.specs.declared.states.Role.TheVariants as r
+use Rattle.unit_grammar.specs.declared.roles.Plain.{Plain}
+use Rattle.unit_grammar.specs.declared.roles.Plain.TheVariants as s
+use Rattle.unit_grammar.specs.declared.roles.Inner.{Inner}
+use Rattle.unit_grammar.specs.declared.roles.Inner.TheVariants as i
+use Rattle.unit_grammar.specs.declared.roles.Outer.{Outer}
+use Rattle.unit_grammar.specs.declared.roles.Outer.TheVariants as o
+use Rattle.unit_grammar.specs.declared.roles.Role.{Role}
+use Rattle.unit_grammar.specs.declared.roles.Role.TheVariants as r
 
 -- ---- among statements
 

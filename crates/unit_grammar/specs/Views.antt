@@ -13,7 +13,7 @@ use Rattle.unit_grammar.specs.declared.frames.ChoiceHead.{ChoiceHead}
 use Rattle.unit_grammar.specs.declared.frames.ChoiceHead.TheVariants as c
 use Rattle.unit_grammar.specs.declared.frames.Frame.{Frame}
 use Rattle.unit_grammar.specs.declared.frames.Frame.TheVariants as f
-use Rattle.unit_grammar.specs.declared.states.Top.{Top}
+use Rattle.unit_grammar.specs.declared.heads.Top.{Top}
 use Rattle.unit_grammar.specs.declared.frames.Body.{Body}
 use Rattle.unit_grammar.specs.declared.frames.End.{End}
 use Rattle.unit_grammar.specs.declared.frames.End.TheVariants as e

@@ -46,13 +46,20 @@ pub fn workbench<I: Source, O: Sink>(
 ) -> Status
     // Words that are no command are refused, and nothing else is.
     ensures words { (result ≡ status.Words) ↔ (command_of (map (λ word. string_bytes word) words.now) ≡ None) }
-    ensures untouched { result ≡ status.Words → IsUntouched (ports (I.left input.old) (I.left input.new) (I.faults input.old) (I.faults input.new) (O.written output.old) (O.written output.new) (O.faults output.old) (O.faults output.new)) }
+    ensures untouched { result ≡ status.Words → IsUntouched (ports (I.state input.old) (I.state input.new)
+        (O.state output.old) (O.state output.new)) }
 
-    ensures tokens { command_of (map (λ word. string_bytes word) words.now) ≡ Some Command.Tokens → IsTextRun AnswersTokens (ports (I.left input.old) (I.left input.new) (I.faults input.old) (I.faults input.new) (O.written output.old) (O.written output.new) (O.faults output.old) (O.faults output.new)) result }
+    ensures tokens { command_of (map (λ word. string_bytes word) words.now) ≡ Some Command.Tokens →
+        IsTextRun AnswersTokens (ports (I.state input.old) (I.state input.new)
+        (O.state output.old) (O.state output.new)) result }
 
-    ensures check { command_of (map (λ word. string_bytes word) words.now) ≡ Some Command.Check → IsCheckRun (ports (I.left input.old) (I.left input.new) (I.faults input.old) (I.faults input.new) (O.written output.old) (O.written output.new) (O.faults output.old) (O.faults output.new)) result }
+    ensures check { command_of (map (λ word. string_bytes word) words.now) ≡ Some Command.Check →
+        IsCheckRun (ports (I.state input.old) (I.state input.new)
+        (O.state output.old) (O.state output.new)) result }
 
-    ensures plain { command_of (map (λ word. string_bytes word) words.now) ≡ Some Command.Plain → IsScriptRun (ports (I.left input.old) (I.left input.new) (I.faults input.old) (I.faults input.new) (O.written output.old) (O.written output.new) (O.faults output.old) (O.faults output.new)) result }
+    ensures plain { command_of (map (λ word. string_bytes word) words.now) ≡ Some Command.Plain →
+        IsScriptRun (ports (I.state input.old) (I.state input.new)
+        (O.state output.old) (O.state output.new)) result }
 
     // Faults come from `check` alone.
     ensures unfaulted { result ≡ status.Faults → command_of (map (λ word. string_bytes word) words.now) ≡ Some Command.Check }

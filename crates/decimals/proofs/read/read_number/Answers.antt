@@ -1,21 +1,9 @@
-use Rattle.std.proofs.Common.{sym, ap, ◌∙◌, arith, rules}
-use Rattle.std.specs.Fmt.{decimal}
-use Rattle.std.proofs.lemmas.Fmt.{parse-decimal}
-use Rattle.decimals.proofs.Numbers.{number_is, number_not, words_same, words_differ, ok_same}
+use Rattle.std.proofs.Common.{◌∙◌, sym}
+use Rattle.decimals.proofs.Numbers.{number_of_some, number_of_none}
 use Rattle.decimals.proofs.read.read_number.Goals as goal
 
-pub returns-in_default : goal.returns-in_default
-returns-in_default c = sym (number_not c.args.word.now (λ n small is.
-    let parsed = parse-decimal 32 n c.args.word.now c.parse.result small (omega arith) is c.parse.ensures.value.0 in
-    c.in_default.not-Ok n parsed))
+pub returns-in-Some : goal.returns-in-Some
+returns-in-Some c = c.ok.ensures.value ∙ number_of_some c.args.word.now c.in-Some.number c.try_from.result (sym c.in-Some.is ∙ c.in_ok-number.ensures) c.try_from.ensures
 
-pub returns-then-eq : goal.returns-then-eq
-returns-then-eq c =
-    let printed = c.as_str.ensures.value ∙ c.in_ok-printed.ensures.ok in
-    sym (number_is c.args.word.now c.in-Ok.number (search rules) (sym (words_same _ _ _ c.eq.ensures c.if-eq.true) ∙ printed))
-
-pub returns : goal.returns
-returns c = sym (number_not c.args.word.now (λ n small is.
-    let parsed = parse-decimal 32 n c.args.word.now c.parse.result small (omega arith) is c.parse.ensures.value.0 in
-    let printed = c.as_str.ensures.value ∙ c.in_ok-printed.ensures.ok in
-    words_differ _ _ _ c.eq.ensures c.if-eq.false (printed ∙ ap decimal (ok_same _ _ _ c.in-Ok.is parsed) ∙ sym is)))
+pub returns-in-None : goal.returns-in-None
+returns-in-None c = number_of_none c.args.word.now (sym c.in-None.is ∙ c.in_ok-number.ensures)

@@ -1,26 +1,9 @@
-use Rattle.std.proofs.Common.{sym, ap, ◌∙◌, arith, w32, Some}
-use Rattle.std.specs.Fmt.{signed_decimal}
-use Rattle.std.proofs.lemmas.Fmt.{parse-signed_decimal}
-use Rattle.std.proofs.lemmas.Int.{to_z-of_z}
-use Rattle.decimals.proofs.Numbers.{whole_is, whole_not, whole_parsed, whole_fits, whole_small, words_same, words_differ, ok_same}
+use Rattle.std.proofs.Common.{◌∙◌, sym}
+use Rattle.decimals.proofs.Numbers.{whole_of_some, whole_of_none}
 use Rattle.decimals.proofs.read.read_whole.Goals as goal
 
-pub returns-in_default : goal.returns-in_default
-returns-in_default c = sym (whole_not c.args.word.now (λ z small is.
-    let parsed = parse-signed_decimal w32 z c.args.word.now c.parse.result (whole_fits z small) (omega arith) is c.parse.ensures.value.0 in
-    c.in_default.not-Ok z parsed))
+pub returns-in-Some : goal.returns-in-Some
+returns-in-Some c = c.ok.ensures.value ∙ whole_of_some c.args.word.now c.in-Some.number c.try_from.result (sym c.in-Some.is ∙ c.in_ok-number.ensures) c.try_from.ensures
 
-pub returns-then-eq : goal.returns-then-eq
-returns-then-eq c =
-    let read = whole_parsed c.args.word.now c.parse.result c.in-Ok.number c.parse.ensures.value.0 c.in-Ok.is in
-    let number = to_z-of_z w32 c.in-Ok.number read.0 in
-    let printed = c.as_str.ensures.value ∙ c.in_ok-printed.ensures.ok ∙ ap signed_decimal number in
-    sym (whole_is c.args.word.now c.in-Ok.number (whole_small c.in-Ok.number read.0) read.1 (sym (words_same _ _ _ c.eq.ensures c.if-eq.true) ∙ printed) ∙ ap Some (sym number))
-
-pub returns : goal.returns
-returns c = sym (whole_not c.args.word.now (λ z small is.
-    let read = whole_parsed c.args.word.now c.parse.result c.in-Ok.number c.parse.ensures.value.0 c.in-Ok.is in
-    let number = to_z-of_z w32 c.in-Ok.number read.0 in
-    let printed = c.as_str.ensures.value ∙ c.in_ok-printed.ensures.ok ∙ ap signed_decimal number in
-    let parsed = parse-signed_decimal w32 z c.args.word.now c.parse.result (whole_fits z small) (omega arith) is c.parse.ensures.value.0 in
-    words_differ _ _ _ c.eq.ensures c.if-eq.false (printed ∙ ap signed_decimal (ok_same _ _ _ c.in-Ok.is parsed) ∙ sym is)))
+pub returns-in-None : goal.returns-in-None
+returns-in-None c = whole_of_none c.args.word.now (sym c.in-None.is ∙ c.in_ok-number.ensures)

@@ -7,6 +7,6 @@ loop-at-preserved g c =
     let within = simp (take-behind, length-drop) at c.in_ok-at.ensures.within in
     record {
       within = omega arith;
-      bytes = rw (take-then c.args.bytes.now c.loop-at.at c.in_ok-at.field-0) at (PutsInto-then _ _ _ _ _ c.loop-at.invariant.bytes c.in_ok-at.ensures.bytes);
+      bytes = rw (take-then c.args.bytes.now c.loop-at.at c.in_ok-at.field-0) at (PutsInto-then (g.O.Sink.state c.args.output.now) (g.O.Sink.state c.loop-at.output) (g.O.Sink.state c.put.new.self) _ _ c.loop-at.invariant.bytes c.in_ok-at.ensures.bytes);
       count = cc c.in_ok-at.ensures.cause;
     }

@@ -5,8 +5,8 @@ use Rattle.km_ports.proofs.whole.read_within.Given as goal
 abbrev pub invariant-loop-found : goal.invariant-loop-found
 invariant-loop-found g l = record {
   within : vec_len l.found ≤ l.most + 1;
-  bytes : TakesFrom (g.I.Source.left l.initial.input) (g.I.Source.left l.input) l.found.items;
-  count : g.I.Source.faults l.input ≡ g.I.Source.faults l.initial.input;
+  bytes : TakesFrom (g.I.Source.state l.initial.input) (g.I.Source.state l.input) l.found.items;
+  count : (g.I.Source.state l.input).faults ≡ (g.I.Source.state l.initial.input).faults;
 }
 
 abbrev pub decreases-loop-found : goal.decreases-loop-found

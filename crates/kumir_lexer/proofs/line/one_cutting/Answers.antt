@@ -1,5 +1,5 @@
-use Rattle.kumir_lexer.proofs.Some.{some_cut}
-use Rattle.kumir_lexer.proofs.Unique.{one_cut}
+use Rattle.kumir_lexer.proofs.SomeCutting.{some_cut}
+use Rattle.kumir_lexer.proofs.OneCutting.{one_cut}
 use Rattle.kumir_lexer.proofs.line.one_cutting.Goals as goal
 
 pub returns : goal.returns

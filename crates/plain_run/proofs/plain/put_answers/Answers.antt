@@ -3,7 +3,7 @@ use Rattle.plain_run.proofs.Carried.{puts_nothing, puts_next, next_waiting}
 use Rattle.plain_run.proofs.plain.put_answers.Goals as goal
 
 pub loop-request-init : goal.loop-request-init
-loop-request-init g c = record { done = []; rest = c.in-Ok.ensures; put = puts_nothing _ _; stood = refl }
+loop-request-init g c = record { done = []; rest = c.in_ok-waiting.ensures; put = puts_nothing c.args.versions.now (g.O.Sink.state c.args.output.now); stood = refl }
 
 pub loop-request-preserved : goal.loop-request-preserved
 loop-request-preserved g c =
@@ -11,6 +11,6 @@ loop-request-preserved g c =
     record {
       done = before.done ++ c.in-Some.request ∷ [];
       rest = next_waiting c.args.requests before.done c.loop-request.waiting c.in-Some.request c.pop.new.self before.rest c.in-Some.ensures;
-      put = puts_next before.done c.in-Some.request c.args.versions.now c.loop-request.versions c.put_answer.new.versions (g.O.Sink.written c.args.output.now) (g.O.Sink.written c.loop-request.output) (g.O.Sink.written c.put_answer.new.output) before.put c.in_ok-put_answer.ensures.whole;
+      put = puts_next before.done c.in-Some.request c.args.versions.now c.loop-request.versions c.put_answer.new.versions (g.O.Sink.state c.args.output.now) (g.O.Sink.state c.loop-request.output) (g.O.Sink.state c.put_answer.new.output) before.put c.in_ok-put_answer.ensures.whole;
       stood = c.in_ok-put_answer.ensures.cause ∙ before.stood;
     }

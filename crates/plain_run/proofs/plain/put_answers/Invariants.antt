@@ -8,8 +8,8 @@ abbrev pub invariant-loop-request : goal.invariant-loop-request
 invariant-loop-request g l = record {
   done : List Request;
   rest : l.fn.requests ≡ done ++ reverse l.waiting;
-  put : PutsEntries (λ es. Carries l.fn.versions done es l.versions) (g.O.Sink.written l.fn.output) (g.O.Sink.written l.output);
-  stood : g.O.Sink.faults l.output ≡ g.O.Sink.faults l.fn.output;
+  put : PutsEntries (λ es. Carries l.fn.versions done es l.versions) (g.O.Sink.state l.fn.output) (g.O.Sink.state l.output);
+  stood : (g.O.Sink.state l.output).faults ≡ (g.O.Sink.state l.fn.output).faults;
 }
 
 abbrev pub decreases-loop-request : goal.decreases-loop-request

@@ -8,14 +8,14 @@ use Rattle.plain_run.proofs.script.carry_piece.Goals as goal
 pub returns-clause-carried : goal.returns-clause-carried
 returns-clause-carried g c = λ fed told.
     let rest = drop (c.min-asked.result + 1) c.args.buffer.now in
-    let same = take-append-le c.in-Ok.count c.take.new.piece rest c.in-Ok.ensures.within in (
-      take c.in-Ok.count (c.take.new.piece ++ rest),
-      ap length same ∙ length-take-le _ _ c.in-Ok.ensures.within,
-      on_ok_here c.feed.result c.in-Ok-feed.requests c.in-Ok-feed.is (c.feed.ensures.fed fed told),
+    let same = take-append-le c.in_ok-count.count c.take.new.piece rest c.in_ok-count.ensures.within in (
+      take c.in_ok-count.count (c.take.new.piece ++ rest),
+      ap length same ∙ length-take-le _ _ c.in_ok-count.ensures.within,
+      on_ok_here c.feed.result c.in_ok-requests.requests c.in_ok-requests.was (c.feed.ensures.fed fed told),
       record {
-        taken = subst (TakesFrom (g.I.Source.left c.args.input.now) (g.I.Source.left c.take.new.self)) (sym same) c.in-Ok.ensures.bytes;
-        more = c.in-Ok-feed.requests;
-        are_more = if_ok_here (λ rs. whole (fed ++ take c.in-Ok.count (c.take.new.piece ++ rest)) ≡ whole fed ++ rs) c.feed.result c.in-Ok-feed.requests c.in-Ok-feed.is (c.feed.ensures.requests fed told);
+        taken = subst (TakesFrom (g.I.Source.state c.args.input.now) (g.I.Source.state c.take.new.self)) (sym same) c.in_ok-count.ensures.bytes;
+        more = c.in_ok-requests.requests;
+        are_more = if_ok_here (λ rs. whole (fed ++ take c.in_ok-count.count (c.take.new.piece ++ rest)) ≡ whole fed ++ rs) c.feed.result c.in_ok-requests.requests c.in_ok-requests.was (c.feed.ensures.requests fed told);
         put = c.in_ok-put_answers.ensures.whole;
       },
     )

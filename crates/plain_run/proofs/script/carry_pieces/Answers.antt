@@ -1,7 +1,7 @@
 use Rattle.std.proofs.Common.{ℕ, [], refl, sym, ap, subst, ◌∙◌, arith}
 use Rattle.std.specs.Prelude.{Err}
 use Rattle.std.proofs.lemmas.Result.{err_from_is_err_and}
-use Rattle.km_base.specs.declared.limits.TheConstants.{SCRIPT_BYTES}
+use Rattle.km_base.specs.Limits.{script_bytes}
 use Rattle.plain_run.specs.Runs.{ports}
 use Rattle.plain_run.specs.Carried.{StopsFor}
 use Rattle.plain_run.proofs.Carried.{if_ok_here}
@@ -13,7 +13,7 @@ loop-reader-init g c = record {
   fed = [];
   read = c.new-reader.ensures;
   left = refl;
-  carried = carried_none (g.I.Source.left c.args.input.now) (g.O.Sink.written c.args.output.now) (g.I.Source.faults c.args.input.now) (g.O.Sink.faults c.args.output.now) c.args.versions.now;
+  carried = carried_none (g.I.Source.state c.args.input.now) (g.O.Sink.state c.args.output.now) c.args.versions.now;
   source = refl;
   sink = refl;
 }
@@ -22,7 +22,7 @@ pub loop-reader-preserved : goal.loop-reader-preserved
 loop-reader-preserved g c =
     let i = c.loop-reader.invariant in
     let here = if_ok_here _ c.carry_piece.result c.in_ok-count.count c.in_ok-count.was (c.carry_piece.ensures.carried i.fed i.read) in
-    let more = more_carried (g.I.Source.left c.args.input.now) (g.I.Source.left c.loop-reader.input) (g.I.Source.left c.carry_piece.new.input) (g.I.Source.faults c.args.input.now) (g.I.Source.faults c.loop-reader.input) (g.I.Source.faults c.carry_piece.new.input) (g.O.Sink.written c.args.output.now) (g.O.Sink.written c.loop-reader.output) (g.O.Sink.written c.carry_piece.new.output) (g.O.Sink.faults c.args.output.now) (g.O.Sink.faults c.loop-reader.output) (g.O.Sink.faults c.carry_piece.new.output) i.fed c.args.versions.now c.loop-reader.versions c.carry_piece.new.versions c.carry_piece.new.reader c.in_ok-count.count c.loop-reader.room SCRIPT_BYTES i.left c.in_ok-count.ensures.within i.carried here in
+    let more = more_carried (g.I.Source.state c.args.input.now) (g.I.Source.state c.loop-reader.input) (g.I.Source.state c.carry_piece.new.input) (g.O.Sink.state c.args.output.now) (g.O.Sink.state c.loop-reader.output) (g.O.Sink.state c.carry_piece.new.output) i.fed c.args.versions.now c.loop-reader.versions c.carry_piece.new.versions c.carry_piece.new.reader c.in_ok-count.count c.loop-reader.room script_bytes i.left c.in_ok-count.ensures.within i.carried here in
     record {
       fed = more.0;
       read = more.1;
@@ -36,16 +36,16 @@ pub returns-then-count-eq0-clause-carried : goal.returns-then-count-eq0-clause-c
 returns-then-count-eq0-clause-carried g c =
     let i = c.loop-reader.invariant in
     let here = if_ok_here _ c.carry_piece.result c.in_ok-count.count c.in_ok-count.was (c.carry_piece.ensures.carried i.fed i.read) in
-    let more = more_carried (g.I.Source.left c.args.input.now) (g.I.Source.left c.loop-reader.input) (g.I.Source.left c.carry_piece.new.input) (g.I.Source.faults c.args.input.now) (g.I.Source.faults c.loop-reader.input) (g.I.Source.faults c.carry_piece.new.input) (g.O.Sink.written c.args.output.now) (g.O.Sink.written c.loop-reader.output) (g.O.Sink.written c.carry_piece.new.output) (g.O.Sink.faults c.args.output.now) (g.O.Sink.faults c.loop-reader.output) (g.O.Sink.faults c.carry_piece.new.output) i.fed c.args.versions.now c.loop-reader.versions c.carry_piece.new.versions c.carry_piece.new.reader c.in_ok-count.count c.loop-reader.room SCRIPT_BYTES i.left c.in_ok-count.ensures.within i.carried here in
+    let more = more_carried (g.I.Source.state c.args.input.now) (g.I.Source.state c.loop-reader.input) (g.I.Source.state c.carry_piece.new.input) (g.O.Sink.state c.args.output.now) (g.O.Sink.state c.loop-reader.output) (g.O.Sink.state c.carry_piece.new.output) i.fed c.args.versions.now c.loop-reader.versions c.carry_piece.new.versions c.carry_piece.new.reader c.in_ok-count.count c.loop-reader.room script_bytes i.left c.in_ok-count.ensures.within i.carried here in
     (more.0, more.1, omega (arith, more.2, i.left, c.in_ok-count.ensures.within), more.3)
 
 pub returns-in_err-count-clause-cause : goal.returns-in_err-count-clause-cause
 returns-in_err-count-clause-cause g c =
     let i = c.loop-reader.invariant in
     let p = err_from_is_err_and c.from_residual.result c.from_residual.ensures.1 in
-    subst (λ r. StopsFor SCRIPT_BYTES (ports (g.I.Source.left c.args.input.now) (g.I.Source.left c.carry_piece.new.input) (g.I.Source.faults c.args.input.now) (g.I.Source.faults c.carry_piece.new.input) (g.O.Sink.written c.args.output.now) (g.O.Sink.written c.carry_piece.new.output) (g.O.Sink.faults c.args.output.now) (g.O.Sink.faults c.carry_piece.new.output)) r) (sym (p.1 ∙ ap Err p.2)) (stops_behind ℕ ℕ SCRIPT_BYTES c.loop-reader.room i.fed (g.I.Source.left c.args.input.now) (g.I.Source.left c.loop-reader.input) (g.I.Source.left c.carry_piece.new.input) (g.I.Source.faults c.args.input.now) (g.I.Source.faults c.loop-reader.input) (g.I.Source.faults c.carry_piece.new.input) (g.O.Sink.written c.args.output.now) (g.O.Sink.written c.loop-reader.output) (g.O.Sink.written c.carry_piece.new.output) (g.O.Sink.faults c.args.output.now) (g.O.Sink.faults c.loop-reader.output) (g.O.Sink.faults c.carry_piece.new.output) _ i.left i.carried.taken i.source i.sink c.in_err-count.ensures.cause)
+    subst (λ r. StopsFor script_bytes (ports (g.I.Source.state c.args.input.now) (g.I.Source.state c.carry_piece.new.input) (g.O.Sink.state c.args.output.now) (g.O.Sink.state c.carry_piece.new.output)) r) (sym (p.1 ∙ ap Err p.2)) (stops_behind ℕ ℕ script_bytes c.loop-reader.room i.fed (g.I.Source.state c.args.input.now) (g.I.Source.state c.loop-reader.input) (g.I.Source.state c.carry_piece.new.input) (g.O.Sink.state c.args.output.now) (g.O.Sink.state c.loop-reader.output) (g.O.Sink.state c.carry_piece.new.output) _ i.left i.carried.taken i.source i.sink c.in_err-count.ensures.cause)
 
 pub returns-in_err-count-clause-taken : goal.returns-in_err-count-clause-taken
 returns-in_err-count-clause-taken g c =
     let i = c.loop-reader.invariant in
-    up_to_behind SCRIPT_BYTES c.loop-reader.room (g.I.Source.left c.args.input.now) (g.I.Source.left c.loop-reader.input) (g.I.Source.left c.carry_piece.new.input) i.fed i.left i.carried.taken c.in_err-count.ensures.taken
+    up_to_behind script_bytes c.loop-reader.room (g.I.Source.state c.args.input.now) (g.I.Source.state c.loop-reader.input) (g.I.Source.state c.carry_piece.new.input) i.fed i.left i.carried.taken c.in_err-count.ensures.taken

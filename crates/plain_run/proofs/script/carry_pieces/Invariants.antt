@@ -1,5 +1,5 @@
 use Rattle.std.proofs.Common.{◌≡◌, ◌+◌, ℕ, List, [], Some, length}
-use Rattle.km_base.specs.declared.limits.TheConstants.{SCRIPT_BYTES}
+use Rattle.km_base.specs.Limits.{script_bytes}
 use Rattle.plain_run.specs.Runs.{ports}
 use Rattle.plain_run.specs.Carried.{HasCarried}
 use Rattle.plain_run.proofs.script.carry_pieces.Given as goal
@@ -8,10 +8,10 @@ abbrev pub invariant-loop-reader : goal.invariant-loop-reader
 invariant-loop-reader g l = record {
   fed : List ℕ;
   read : l.reader ≡ Some fed;
-  left : length fed + l.room ≡ SCRIPT_BYTES;
-  carried : HasCarried (ports (g.I.Source.left l.fn.input) (g.I.Source.left l.input) (g.I.Source.faults l.fn.input) (g.I.Source.faults l.input) (g.O.Sink.written l.fn.output) (g.O.Sink.written l.output) (g.O.Sink.faults l.fn.output) (g.O.Sink.faults l.output)) [] fed l.fn.versions l.versions;
-  source : g.I.Source.faults l.input ≡ g.I.Source.faults l.fn.input;
-  sink : g.O.Sink.faults l.output ≡ g.O.Sink.faults l.fn.output;
+  left : length fed + l.room ≡ script_bytes;
+  carried : HasCarried (ports (g.I.Source.state l.fn.input) (g.I.Source.state l.input) (g.O.Sink.state l.fn.output) (g.O.Sink.state l.output)) [] fed l.fn.versions l.versions;
+  source : (g.I.Source.state l.input).faults ≡ (g.I.Source.state l.fn.input).faults;
+  sink : (g.O.Sink.state l.output).faults ≡ (g.O.Sink.state l.fn.output).faults;
 }
 
 abbrev pub decreases-loop-reader : goal.decreases-loop-reader

@@ -2,12 +2,12 @@ use Rattle.std.proofs.Common.{[], ◌∷◌, ◌++◌, length, sym, ap, ◌∙�
 use Rattle.std.proofs.lemmas.List.{take_all, take_at, length_push}
 use Rattle.script_lines.proofs.state.keep_byte.Goals as goal
 
-pub returns-in-Ok : goal.returns-in-Ok
-returns-in-Ok c =
+pub returns-in_ok-push : goal.returns-in_ok-push
+returns-in_ok-push c =
     let long = length_push c.args.line.now.items c.args.byte in
     let same = ap length c.as_slice.ensures.value in
     let less = c.if-as_slice-lt-KEPT_BYTES.true in
-    c.in-Ok.ensures.items ∙ sym (take_all 4101 (c.args.line.now.items ++ c.args.byte ∷ []) (omega arith))
+    c.in_ok-push.ensures.items ∙ sym (take_all 4101 (c.args.line.now.items ++ c.args.byte ∷ []) (omega arith))
 
 pub returns-else-as_slice-lt-KEPT_BYTES : goal.returns-else-as_slice-lt-KEPT_BYTES
 returns-else-as_slice-lt-KEPT_BYTES c =

@@ -1,6 +1,6 @@
 use Rattle.std.proofs.Common.{sym, refl}
 use Rattle.transcript.specs.Print.{print}
-use Rattle.transcript.proofs.Fronts.{same_entries}
+use Rattle.transcript.proofs.OneReading.{same_entries}
 use Rattle.transcript.proofs.entries.one_print.Goals as goal
 
 pub returns : goal.returns

@@ -5,7 +5,7 @@ use Rattle.std.specs.Prelude.{All}
 use Rattle.transcript.specs.Print.{print, printed_entry}
 use Rattle.transcript.specs.Entries.{IsShown, IsFirstBad}
 use Rattle.transcript.specs.declared.entries.TranscriptRefusal.TheVariants.{NotEntry}
-use Rattle.transcript.proofs.Fronts.{one_more, one_shown, shorter, read_all, same_entries, none_bad, same_bad}
+use Rattle.transcript.proofs.OneReading.{one_more, one_shown, shorter, read_all, same_entries, none_bad, same_bad}
 use Rattle.transcript.proofs.entries.read_entries.Goals as goal
 
 pub returns-in_default-clause-read_again : goal.returns-in_default-clause-read_again

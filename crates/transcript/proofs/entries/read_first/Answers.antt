@@ -1,4 +1,4 @@
-use Rattle.transcript.proofs.Fronts.{no_feed_none, other_line_none}
+use Rattle.transcript.proofs.OneReading.{no_feed_none, other_line_none}
 use Rattle.transcript.proofs.entries.read_first.Goals as goal
 
 pub returns-in-None : goal.returns-in-None

@@ -1,5 +1,5 @@
 use Rattle.std.proofs.Common.{sym}
-use Rattle.transcript.proofs.Fronts.{line_parts, no_feed_at}
+use Rattle.transcript.proofs.OneReading.{line_parts, no_feed_at}
 use Rattle.transcript.proofs.entries.split_line.Goals as goal
 
 pub returns-in-Some : goal.returns-in-Some

@@ -1,6 +1,6 @@
 use Rattle.std.proofs.Common.{◌∙◌, sym, ap}
 use Rattle.std.specs.Arc.{arc_value}
-use Rattle.kumir_machine.proofs.Begun.{all_valid, entry_there, begun_machine}
+use Rattle.kumir_machine.proofs.NewMachine.{all_valid, entry_there, begun_machine}
 use Rattle.kumir_machine.proofs.machine.Machine.new.Goals as goal
 
 pub begin_run-requires-clause-valid : goal.begin_run-requires-clause-valid

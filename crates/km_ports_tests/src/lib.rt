@@ -1,0 +1,5 @@
+//! Tests of sources, sinks and statuses.
+#![tactic(auto)]
+
+#[cfg(test)]
+mod tests;

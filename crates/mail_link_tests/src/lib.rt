@@ -1,0 +1,5 @@
+//! Tests of links between two threads.
+#![tactic(auto)]
+
+#[cfg(test)]
+mod tests;

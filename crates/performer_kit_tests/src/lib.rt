@@ -1,0 +1,5 @@
+//! Tests of the command table.
+#![tactic(auto)]
+
+#[cfg(test)]
+mod tests;

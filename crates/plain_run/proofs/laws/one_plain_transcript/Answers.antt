@@ -1,0 +1,8 @@
+use Rattle.plain_run.proofs.OnePlain.{some_plain, one_plain}
+use Rattle.plain_run.proofs.laws.one_plain_transcript.Goals as goal
+
+pub returns-clause-some : goal.returns-clause-some
+returns-clause-some c = some_plain
+
+pub returns-clause-one : goal.returns-clause-one
+returns-clause-one c = one_plain

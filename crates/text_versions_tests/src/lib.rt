@@ -1,0 +1,5 @@
+//! Tests of texts and their versions.
+#![tactic(auto)]
+
+#[cfg(test)]
+mod tests;
