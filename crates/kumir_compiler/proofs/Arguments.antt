@@ -6,16 +6,17 @@ use Rattle.kumir_values.specs.declared.value.Value.{Value}
 use Rattle.kumir_values.specs.declared.run_end.RunFault.{RunFault}
 use Rattle.kumir_values.specs.declared.run_end.RunFault.TheVariants.{Index}
 use Rattle.kumir_values.specs.Bounds.{inside}
-use Rattle.kumir_meaning.specs.Runs.{Rest, given, tick, Fault}
-use Rattle.kumir_meaning.specs.Operations.{number_of}
-use Rattle.kumir_meaning.specs.Store.{Variable, Local, Store, Cell, Empty, Has, Holds, Spot, AtElement, read, checked, settled}
-use Rattle.kumir_meaning.specs.Callees.{Placed, Program, Called, callee}
-use Rattle.kumir_meaning.specs.Meaning.{Allowed, Enter, Then, ThenValue, ThenValues, Passed, numbers_of}
+use Rattle.kumir_names.specs.Callees.{Called}
+use Rattle.kumir_meaning.specs.Program.{Placed, Program, callee_in}
+use Rattle.kumir_meaning.specs.Operators.{number_of}
+use Rattle.kumir_meaning.specs.Store.{CellName, Local, Store, Cell, Empty, Has, Holds, Spot, AtElement, read, checked, settled}
+use Rattle.kumir_meaning.specs.Runs.{Rest, unless_fault, tick, Fault, Allowed}
+use Rattle.kumir_meaning.specs.Expressions.{Enter, Then, ThenValue, ThenValues, Passed, numbers_of}
 use Rattle.stack_code.specs.declared.instruction.CallPlace.{CallPlace}
 use Rattle.stack_code.specs.declared.instruction.Instruction.TheVariants as instruction
 use Rattle.stack_code.specs.declared.unit.CodeUnit.{CodeUnit}
 use Rattle.stack_code.specs.CodeState.{Frame, Slots, Plain, with_slot, cell_in, numbers, next}
-use Rattle.stack_code.specs.Instructions.{gives, if_fine, unit_at}
+use Rattle.stack_code.specs.Instructions.{pushes_result, if_fine, unit_at}
 use Rattle.kumir_compiler.specs.Code.{Code, Site, on, slot, hidden, keep_code, kept_at, enter_code, number_of_unit}
 use Rattle.kumir_compiler.proofs.Slotted.{is_among}
 use Rattle.kumir_compiler.proofs.Stands.{Stands, parts}
@@ -42,7 +43,7 @@ with_answer (Some k) v stack = v ∷ stack
 
 -- what is asked of the entering of algorithms: below N steps each call goes on behind itself, with the caller's variables
 pub record EnterOk (al : Allowed) (p : Program) (cs : List CodeUnit) (u : ℕ) (fr : List Frame) (enter : Enter) (N : ℕ) : Type 0 where
-  pub by : (M : ℕ) → suc M ≤ N → (f : List ℕ) (a : Placed) → callee p f ≡ Called a → (names : List Variable) (row pc : ℕ) (places : List CallPlace)
+  pub by : (M : ℕ) → suc M ≤ N → (f : List ℕ) (a : Placed) → callee_in p f ≡ Some (Called a) → (names : List CellName) (row pc : ℕ) (places : List CallPlace)
       → slice_get (unit_at cs u).body pc ≡ Some (record { line = row; what = instruction.Call (number_of_unit p.algorithms f) places })
       → (D : ℕ) (h : Slots) (s : Store) (slots : Slots) (passed : List Passed) (stack : List Value) (k : ThenValue)
       → MatchAll names D h a.algorithm.head.params passed places → Same names D h s slots
@@ -82,15 +83,15 @@ module _ (al : Allowed) (cs : List CodeUnit) (u : ℕ) (fr : List Frame) (t : Si
   pub fixes_element : (x : List ℕ) (n N d : ℕ) (h : Slots) (b : Code) (evb : ThenValues → Then) → is_among t.variables (Local x) ≡ true → EvaluatesAll al cs u fr t N d h n b evb
       → (pc end : ℕ) (s : Store) (slots : Slots) (stack : List Value) (k : Spot → Then) → Stands (Body al cs u fr t N d h) pc (b ++ (on t (instruction.Probe (slot t (Local x)) n) ∷ keep_code n (hidden t d) t)) end → Same t.variables d h s slots
       → ((index : List ℤ) (h1 : Slots) (s1 : Store) (slots1 : Slots) → ((i : ℕ) → i < d → h1 i ≡ h i) → Same t.variables (d + n) h1 s1 slots1 → Indexed (length t.variables) (d + n) h1 index (kept_at n (hidden t d) []) → Reaches al cs N (here u fr end stack slots1 s1.used) (k (AtElement x index) s1))
-      → Reaches al cs N (here u fr pc stack slots s.used) (evb (λ is s1. given (settled (AtElement x (numbers_of is)) s1) t.line (λ spot. k spot s1)) s)
+      → Reaches al cs N (here u fr pc stack slots s.used) (evb (λ is s1. unless_fault (settled (AtElement x (numbers_of is)) s1) t.line (λ spot. k spot s1)) s)
   fixes_element x n N d h b evb known eb pc end s slots stack k has same go =
       let y = parts (Body al cs u fr t N d h) pc b _ end has in
       eb pc y.0 s slots stack _ y.1 same (λ vs s1 slots1 len same1. probed y.0 y.2 vs s1 slots1 len same1 (checked (s1.cells (Local x)) (numbers_of vs)) refl)
     where
       probed : (at : ℕ) → Stands (Body al cs u fr t N d h) at (on t (instruction.Probe (slot t (Local x)) n) ∷ keep_code n (hidden t d) t) end → (vs : List Value) (s1 : Store) (slots1 : Slots) → length vs ≡ n → Same t.variables d h s1 slots1
-          → (r : Result (List ℤ) RunFault) → checked (s1.cells (Local x)) (numbers_of vs) ≡ r → Reaches al cs N (here u fr at (onto vs stack) slots1 s1.used) (given (settled (AtElement x (numbers_of vs)) s1) t.line (λ spot. k spot s1))
+          → (r : Result (List ℤ) RunFault) → checked (s1.cells (Local x)) (numbers_of vs) ≡ r → Reaches al cs N (here u fr at (onto vs stack) slots1 s1.used) (unless_fault (settled (AtElement x (numbers_of vs)) s1) t.line (λ spot. k spot s1))
       probed at h1 vs s1 slots1 len same1 (Err fault) e =
-          subst (λ w. Reaches al cs N (here u fr at (onto vs stack) slots1 s1.used) (given w t.line (λ spot. k spot s1))) (sym (settled_err x (numbers_of vs) s1 fault e))
+          subst (λ w. Reaches al cs N (here u fr at (onto vs stack) slots1 s1.used) (unless_fault w t.line (λ spot. k spot s1))) (sym (settled_err x (numbers_of vs) s1 fault e))
           (on_halt al cs N _ (Fault t.line fault) (line al cs u fr t N d h at (onto vs stack) slots1 s1 _ h1.0
           ∙ ap (λ c. if_fine (checked c (numbers n (onto vs stack))) t.line (λ w. next (here u fr at (onto vs stack) slots1 s1.used) (onto vs stack))) (same1.vars (Local x) known)
           ∙ ap (λ l. if_fine (checked (s1.cells (Local x)) l) t.line (λ w. next (here u fr at (onto vs stack) slots1 s1.used) (onto vs stack))) (numbers_onto vs stack n len)
@@ -98,7 +99,7 @@ module _ (al : Allowed) (cs : List CodeUnit) (u : ℕ) (fr : List Frame) (t : Si
       probed at h1 vs s1 slots1 len same1 (Ok is) e =
           let same_index : is ≡ numbers_of vs = checked_is (s1.cells (Local x)) (numbers_of vs) is e in
           let top : length (onto vs []) ≡ n = onto_length vs [] ∙ (let z : length vs + 0 ≡ n = omega arith in z) in
-          subst (λ w. Reaches al cs N (here u fr at (onto vs stack) slots1 s1.used) (given w t.line (λ spot. k spot s1))) (sym (settled_ok x (numbers_of vs) is s1 e))
+          subst (λ w. Reaches al cs N (here u fr at (onto vs stack) slots1 s1.used) (unless_fault w t.line (λ spot. k spot s1))) (sym (settled_ok x (numbers_of vs) is s1 e))
           (on_go al cs N _ _ _ (line al cs u fr t N d h at (onto vs stack) slots1 s1 _ h1.0
           ∙ ap (λ c. if_fine (checked c (numbers n (onto vs stack))) t.line (λ w. next (here u fr at (onto vs stack) slots1 s1.used) (onto vs stack))) (same1.vars (Local x) known)
           ∙ ap (λ l. if_fine (checked (s1.cells (Local x)) l) t.line (λ w. next (here u fr at (onto vs stack) slots1 s1.used) (onto vs stack))) (numbers_onto vs stack n len)
@@ -108,7 +109,7 @@ module _ (al : Allowed) (cs : List CodeUnit) (u : ℕ) (fr : List Frame) (t : Si
           (λ h2 slots2 agree same2 indexed. go is h2 s1 slots2 agree same2 (subst (λ l. Indexed (length t.variables) (d + n) h2 l (kept_at n (hidden t d) [])) (back_numbers vs ∙ sym same_index) indexed)))))
 
   -- a step, and then the call
-  pub enters_ok : (p : Program) (enter : Enter) (N D : ℕ) (h : Slots) (f : List ℕ) (a : Placed) (places : List CallPlace) (passed : List Passed) → t.program ≡ p → EnterOk al p cs u fr enter N → callee p f ≡ Called a → MatchAll t.variables D h a.algorithm.head.params passed places
+  pub enters_ok : (p : Program) (enter : Enter) (N D : ℕ) (h : Slots) (f : List ℕ) (a : Placed) (places : List CallPlace) (passed : List Passed) → t.program ≡ p → EnterOk al p cs u fr enter N → callee_in p f ≡ Some (Called a) → MatchAll t.variables D h a.algorithm.head.params passed places
       → (pc end : ℕ) (s : Store) (slots : Slots) (stack : List Value) (k : ThenValue) → Stands (Body al cs u fr t N D h) pc (enter_code f places t) end → Same t.variables D h s slots
       → ((v : Value) (s1 : Store) (slots1 : Slots) → Same t.variables D h s1 slots1 → Reaches al cs N (here u fr end (with_answer a.algorithm.head.gives v stack) slots1 s1.used) (k v s1))
       → Reaches al cs N (here u fr pc (onto (all_pushed passed) stack) slots s.used) (tick (λ s1. enter t.line a passed s1 k) s)
@@ -129,7 +130,7 @@ module _ (al : Allowed) (cs : List CodeUnit) (u : ℕ) (fr : List Frame) (t : Si
   loads_kept (z ∷ index) (x ∷ at) N D h s slots stack pc end a indexed same has go =
       let w = indexed.0 in
       let held : slots x ≡ Plain (Has w.1) = ap slots w.2 ∙ same.kept w.0 w.3 ∙ w.4 in
-      on_go al cs N _ _ a (line al cs u fr t N D h pc stack slots s _ has.0 ∙ ap (λ c. gives (read (cell_in c)) t.line (here u fr pc stack slots s.used) stack) held)
+      on_go al cs N _ _ a (line al cs u fr t N D h pc stack slots s _ has.0 ∙ ap (λ c. pushes_result (read (cell_in c)) t.line (here u fr pc stack slots s.used) stack) held)
       (loads_kept index at N D h s slots (w.1 ∷ stack) (pc + 1) end a indexed.1 same has.1
       (λ vs e len. go (w.1 ∷ vs) (ap (λ m. m ∷ numbers_of vs) w.5 ∙ ap (λ l. z ∷ l) e) (ap suc len)))
 

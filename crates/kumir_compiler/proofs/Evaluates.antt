@@ -7,17 +7,19 @@ use Rattle.performer_kit.specs.declared.commands.Command.TheVariants.{Robot}
 use Rattle.performer_kit.specs.declared.commands.RobotCommand.{RobotCommand}
 use Rattle.kumir_values.specs.declared.value.Value.{Value}
 use Rattle.kumir_values.specs.declared.value.Value.TheVariants.{Truth}
-use Rattle.kumir_meaning.specs.Runs.{Rest, given, tick, asks, Wall}
-use Rattle.kumir_meaning.specs.Operations.{BuiltIn, combined, decided, is_yes, negated, applied}
-use Rattle.kumir_meaning.specs.Store.{Variable, Local, Store, read, element}
-use Rattle.kumir_meaning.specs.Meaning.{Allowed, Then, ThenValue, ThenValues, unless_decided, reply_value, is_wall, numbers_of}
+use Rattle.kumir_names.specs.declared.built_in.BuiltIn.{BuiltIn}
+use Rattle.kumir_meaning.specs.Operators.{combined, decided, is_yes, negated, applied}
+use Rattle.kumir_meaning.specs.Store.{CellName, Local, Store, read, element}
+use Rattle.kumir_meaning.specs.Runs.{Rest, unless_fault, tick, asks, Wall, Allowed, reply_value, is_wall}
+use Rattle.kumir_meaning.specs.Expressions.{Then, ThenValue, ThenValues, unless_decided, numbers_of}
 use Rattle.stack_code.specs.declared.instruction.CodeLine.{CodeLine}
 use Rattle.stack_code.specs.declared.instruction.CommandShape.TheVariants as command
 use Rattle.stack_code.specs.declared.instruction.Instruction.{Instruction}
 use Rattle.stack_code.specs.declared.instruction.Instruction.TheVariants as instruction
 use Rattle.stack_code.specs.declared.unit.CodeUnit.{CodeUnit}
 use Rattle.stack_code.specs.CodeState.{State, Frame, Slots, numbers, next}
-use Rattle.stack_code.specs.Instructions.{On, Over, Asks, gives, operates, applies, acts, step, unit_at, is_test}
+use Rattle.performer_kit.specs.Commands.{is_test}
+use Rattle.stack_code.specs.Instructions.{On, Over, Asks, pushes_result, operates, applies, event_of, step, unit_at}
 use Rattle.kumir_compiler.specs.Code.{Code, Site, on, jump, jump_no, slot}
 use Rattle.kumir_compiler.proofs.Slotted.{is_among}
 use Rattle.kumir_compiler.proofs.Stands.{Stands, parts, spans}
@@ -52,7 +54,7 @@ module _ (al : Allowed) (cs : List CodeUnit) (u : ℕ) (fr : List Frame) (t : Si
   EvaluatesAll n code eval =
       (pc end : ℕ) (s : Store) (slots : Slots) (stack : List Value) (k : ThenValues) → Stands Body pc code end → Same t.variables d h s slots → TakesValues end stack n k → At pc stack slots s (eval k s)
 
-  pub line : (pc : ℕ) (stack : List Value) (slots : Slots) (s : Store) (l : CodeLine) → slice_get Body pc ≡ Some l → step al cs (here u fr pc stack slots s.used) ≡ acts al cs l.what l.line (here u fr pc stack slots s.used)
+  pub line : (pc : ℕ) (stack : List Value) (slots : Slots) (s : Store) (l : CodeLine) → slice_get Body pc ≡ Some l → step al cs (here u fr pc stack slots s.used) ≡ event_of al cs l.what l.line (here u fr pc stack slots s.used)
   line pc stack slots s l e = line_at al cs u fr pc stack slots s.used l e
 
   pub move : (pc q : ℕ) (stack : List Value) (slots : Slots) (s : Store) (a : Rest) → pc ≡ q → At q stack slots s a → At pc stack slots s a
@@ -62,13 +64,13 @@ module _ (al : Allowed) (cs : List CodeUnit) (u : ℕ) (fr : List Frame) (t : Si
   pushes v pc end s slots stack k has same go =
       on_go al cs N _ _ _ (line pc stack slots s _ has.0) (move _ _ (v ∷ stack) slots s _ has.1 (go v s slots same))
 
-  pub loads : (x : Variable) → is_among t.variables x ≡ true → Evaluates (on t (instruction.Load (slot t x)) ∷ []) (λ k s. given (read (s.cells x)) t.line (λ v. k v s))
+  pub loads : (x : CellName) → is_among t.variables x ≡ true → Evaluates (on t (instruction.Load (slot t x)) ∷ []) (λ k s. unless_fault (read (s.cells x)) t.line (λ v. k v s))
   loads x known pc end s slots stack k has same go =
       on_gives al cs (read (s.cells x)) N t.line (here u fr pc stack slots s.used) stack _ (λ v. k v s)
-      (line pc stack slots s _ has.0 ∙ ap (λ c. gives (read c) t.line (here u fr pc stack slots s.used) stack) (same.vars x known))
+      (line pc stack slots s _ has.0 ∙ ap (λ c. pushes_result (read c) t.line (here u fr pc stack slots s.used) stack) (same.vars x known))
       (λ v. move _ _ (v ∷ stack) slots s _ has.1 (go v s slots same))
 
-  pub negates : (a : Code) (eva : ThenValue → Then) → Evaluates a eva → Evaluates (a ++ (on t instruction.Neg ∷ [])) (λ k. eva (λ v s1. given (negated v) t.line (λ w. k w s1)))
+  pub negates : (a : Code) (eva : ThenValue → Then) → Evaluates a eva → Evaluates (a ++ (on t instruction.Neg ∷ [])) (λ k. eva (λ v s1. unless_fault (negated v) t.line (λ w. k w s1)))
   negates a eva ea pc end s slots stack k has same go =
       let x = parts Body pc a _ end has in
       ea pc x.0 s slots stack _ x.1 same
@@ -89,13 +91,13 @@ module _ (al : Allowed) (cs : List CodeUnit) (u : ℕ) (fr : List Frame) (t : Si
       turn false v s1 slots1 same1 = go (Truth true) s1 slots1 same1
 
   -- an operator that needs both sides
-  pub combines : (o : Op) (i : Instruction) (a b : Code) (eva evb : ThenValue → Then) → ((v : Value) → decided o v ≡ None) → ((s : State) → acts al cs i t.line s ≡ operates o t.line s) → Evaluates a eva → Evaluates b evb
-      → Evaluates (a ++ (b ++ (on t i ∷ []))) (λ k. eva (λ v. unless_decided (decided o v) k (evb (λ w s2. given (combined o v w) t.line (λ x. k x s2)))))
+  pub combines : (o : Op) (i : Instruction) (a b : Code) (eva evb : ThenValue → Then) → ((v : Value) → decided o v ≡ None) → ((s : State) → event_of al cs i t.line s ≡ operates o t.line s) → Evaluates a eva → Evaluates b evb
+      → Evaluates (a ++ (b ++ (on t i ∷ []))) (λ k. eva (λ v. unless_decided (decided o v) k (evb (λ w s2. unless_fault (combined o v w) t.line (λ x. k x s2)))))
   combines o i a b eva evb free is ea eb pc end s slots stack k has same go =
       let x = parts Body pc a _ end has in
       let y = parts Body x.0 b _ end x.2 in
       ea pc x.0 s slots stack _ x.1 same
-      (λ v s1 slots1 same1. subst (λ c. At x.0 (v ∷ stack) slots1 s1 (unless_decided c k (evb (λ w s2. given (combined o v w) t.line (λ z. k z s2))) s1)) (sym (free v))
+      (λ v s1 slots1 same1. subst (λ c. At x.0 (v ∷ stack) slots1 s1 (unless_decided c k (evb (λ w s2. unless_fault (combined o v w) t.line (λ z. k z s2))) s1)) (sym (free v))
       (eb x.0 y.0 s1 slots1 (v ∷ stack) _ y.1 same1
       (λ w s2 slots2 same2. on_gives al cs (combined o v w) N t.line (here u fr y.0 (w ∷ v ∷ stack) slots2 s2.used) stack _ (λ z. k z s2)
       (line y.0 (w ∷ v ∷ stack) slots2 s2 _ y.2.0 ∙ is _)
@@ -153,27 +155,27 @@ module _ (al : Allowed) (cs : List CodeUnit) (u : ℕ) (fr : List Frame) (t : Si
 
   -- an element of a table
   pub elements_of : (x : List ℕ) (n : ℕ) (b : Code) (evb : ThenValues → Then) → is_among t.variables (Local x) ≡ true → EvaluatesAll n b evb
-      → Evaluates (b ++ (on t (instruction.Elem (slot t (Local x)) n) ∷ [])) (λ k. evb (λ is s1. given (element (s1.cells (Local x)) (numbers_of is)) t.line (λ v. k v s1)))
+      → Evaluates (b ++ (on t (instruction.Elem (slot t (Local x)) n) ∷ [])) (λ k. evb (λ is s1. unless_fault (element (s1.cells (Local x)) (numbers_of is)) t.line (λ v. k v s1)))
   elements_of x n b evb known eb pc end s slots stack k has same go =
       let y = parts Body pc b _ end has in
       eb pc y.0 s slots stack _ y.1 same
       (λ vs s1 slots1 len same1. on_gives al cs (element (s1.cells (Local x)) (numbers_of vs)) N t.line (here u fr y.0 (onto vs stack) slots1 s1.used) stack _ (λ v. k v s1)
       (line y.0 (onto vs stack) slots1 s1 _ y.2.0
-      ∙ ap (λ c. gives (element c (numbers n (onto vs stack))) t.line (here u fr y.0 (onto vs stack) slots1 s1.used) (drop n (onto vs stack))) (same1.vars (Local x) known)
-      ∙ ap (λ l. gives (element (s1.cells (Local x)) l) t.line (here u fr y.0 (onto vs stack) slots1 s1.used) (drop n (onto vs stack))) (numbers_onto vs stack n len)
-      ∙ ap (λ l. gives (element (s1.cells (Local x)) (numbers_of vs)) t.line (here u fr y.0 (onto vs stack) slots1 s1.used) l) (drop_onto vs stack n len))
+      ∙ ap (λ c. pushes_result (element c (numbers n (onto vs stack))) t.line (here u fr y.0 (onto vs stack) slots1 s1.used) (drop n (onto vs stack))) (same1.vars (Local x) known)
+      ∙ ap (λ l. pushes_result (element (s1.cells (Local x)) l) t.line (here u fr y.0 (onto vs stack) slots1 s1.used) (drop n (onto vs stack))) (numbers_onto vs stack n len)
+      ∙ ap (λ l. pushes_result (element (s1.cells (Local x)) (numbers_of vs)) t.line (here u fr y.0 (onto vs stack) slots1 s1.used) l) (drop_onto vs stack n len))
       (λ v. move _ _ (v ∷ stack) slots1 s1 _ y.2.1 (go v s1 slots1 same1)))
 
   -- a built-in over its values
-  pub applies_to : (c : BuiltIn) (n : ℕ) (i : Instruction) (b : Code) (evb : ThenValues → Then) → ((s : State) → acts al cs i t.line s ≡ applies c n t.line s) → EvaluatesAll n b evb
-      → Evaluates (b ++ (on t i ∷ [])) (λ k. evb (λ vs s1. given (applied c vs) t.line (λ v. k v s1)))
+  pub applies_to : (c : BuiltIn) (n : ℕ) (i : Instruction) (b : Code) (evb : ThenValues → Then) → ((s : State) → event_of al cs i t.line s ≡ applies c n t.line s) → EvaluatesAll n b evb
+      → Evaluates (b ++ (on t i ∷ [])) (λ k. evb (λ vs s1. unless_fault (applied c vs) t.line (λ v. k v s1)))
   applies_to c n i b evb is eb pc end s slots stack k has same go =
       let y = parts Body pc b _ end has in
       eb pc y.0 s slots stack _ y.1 same
       (λ vs s1 slots1 len same1. on_gives al cs (applied c vs) N t.line (here u fr y.0 (onto vs stack) slots1 s1.used) stack _ (λ v. k v s1)
       (line y.0 (onto vs stack) slots1 s1 _ y.2.0 ∙ is _
-      ∙ ap (λ l. gives (applied c l) t.line (here u fr y.0 (onto vs stack) slots1 s1.used) (drop n (onto vs stack))) (taken_onto vs stack n len)
-      ∙ ap (λ l. gives (applied c vs) t.line (here u fr y.0 (onto vs stack) slots1 s1.used) l) (drop_onto vs stack n len))
+      ∙ ap (λ l. pushes_result (applied c l) t.line (here u fr y.0 (onto vs stack) slots1 s1.used) (drop n (onto vs stack))) (taken_onto vs stack n len)
+      ∙ ap (λ l. pushes_result (applied c vs) t.line (here u fr y.0 (onto vs stack) slots1 s1.used) l) (drop_onto vs stack n len))
       (λ v. move _ _ (v ∷ stack) slots1 s1 _ y.2.1 (go v s1 slots1 same1)))
 
   -- a test of the Robot

@@ -15,6 +15,6 @@ pub mod Statements
 pub mod Received
 pub mod Programs
 pub mod Scoped
-pub mod Callables
-pub mod Values
-pub mod Faultless
+pub mod SameCallees
+pub mod TypedValues
+pub mod FaultlessPrograms

@@ -3,10 +3,11 @@ use Rattle.std.proofs.Common.{◌≡◌, ℕ, zero, suc, ◌+◌, ◌-◌, ◌�
 use Rattle.std.specs.Prelude.{ℤ, ◌+ℤ◌}
 use Rattle.kumir_values.specs.declared.value.Value.{Value}
 use Rattle.kumir_values.specs.declared.value.Value.TheVariants.{Whole}
-use Rattle.kumir_meaning.specs.Runs.{Rest, tick, choose}
-use Rattle.kumir_meaning.specs.Operations.{is_yes}
+use Rattle.kumir_meaning.specs.Operators.{is_yes}
 use Rattle.kumir_meaning.specs.Store.{Local, Store, Has, with_cell}
-use Rattle.kumir_meaning.specs.Meaning.{Allowed, Then, ThenValue, while_yes, turns, past, counts, forever, until}
+use Rattle.kumir_meaning.specs.Runs.{Rest, tick, choose, Allowed}
+use Rattle.kumir_meaning.specs.Expressions.{Then, ThenValue}
+use Rattle.kumir_meaning.specs.Loops.{while_yes, turns, past, counts, forever, until}
 use Rattle.stack_code.specs.declared.instruction.CodeLine.{CodeLine}
 use Rattle.stack_code.specs.declared.unit.CodeUnit.{CodeUnit}
 use Rattle.stack_code.specs.CodeState.{State, Frame, Slots, Plain, Left, Numbers, with_slot}

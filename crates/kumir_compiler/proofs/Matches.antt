@@ -6,9 +6,9 @@ use Rattle.kumir_tree.specs.declared.kind.Mode.TheVariants.{Arg, Res, ArgRes}
 use Rattle.kumir_tree.specs.Tree.{Trees, no_trees, ◌then◌}
 use Rattle.kumir_tree.specs.Part.{Formal}
 use Rattle.kumir_values.specs.declared.value.Value.{Value}
-use Rattle.kumir_meaning.specs.Operations.{number_of}
-use Rattle.kumir_meaning.specs.Store.{Variable, Local, Has, Spot, AtVariable, AtElement}
-use Rattle.kumir_meaning.specs.Meaning.{Passed, ByValue, ByPlace, ByTable, numbers_of}
+use Rattle.kumir_meaning.specs.Operators.{number_of}
+use Rattle.kumir_meaning.specs.Store.{CellName, Local, Has, Spot, AtVariable, AtElement}
+use Rattle.kumir_meaning.specs.Expressions.{Passed, ByValue, ByPlace, ByTable, numbers_of}
 use Rattle.stack_code.specs.declared.instruction.CallPlace.{CallPlace}
 use Rattle.stack_code.specs.declared.instruction.CallPlace.TheVariants as place
 use Rattle.stack_code.specs.CodeState.{Slots, Plain}
@@ -32,7 +32,7 @@ indexed_more n D E h h1 (z ∷ zs) (y ∷ at) le agree x =
     let below1 : x.0.0 < E = omega arith in
     ((x.0.0, x.0.1, x.0.2, below1, agree x.0.0 below ∙ x.0.4, x.0.5), indexed_more n D E h h1 zs at le agree x.1)
 
-abbrev pub SpotAt : List Variable → ℕ → Slots → Spot → CallPlace → Type 0
+abbrev pub SpotAt : List CellName → ℕ → Slots → Spot → CallPlace → Type 0
 SpotAt names D h (AtVariable x) place.Value = ⊥
 SpotAt names D h (AtVariable x) (place.Slot j) = (j ≡ position names x) × (is_among names x ≡ true)
 SpotAt names D h (AtVariable x) (place.Element j at) = ⊥
@@ -49,7 +49,7 @@ Filled Res (Some v) = ⊥
 Filled ArgRes None = ⊥
 Filled ArgRes (Some v) = Unit {0}
 
-abbrev pub Matches : Mode → List Variable → ℕ → Slots → Passed → CallPlace → Type 0
+abbrev pub Matches : Mode → List CellName → ℕ → Slots → Passed → CallPlace → Type 0
 Matches mode names D h (ByValue v) place.Value = Unit {0}
 Matches mode names D h (ByValue v) (place.Slot j) = ⊥
 Matches mode names D h (ByValue v) (place.Element j at) = ⊥
@@ -60,14 +60,14 @@ Matches mode names D h (ByTable x) (place.Slot j) = ⊥
 Matches mode names D h (ByTable x) (place.Element j at) = ⊥
 Matches mode names D h (ByTable x) (place.Table j) = (j ≡ position names (Local x)) × (is_among names (Local x) ≡ true)
 
-abbrev pub MatchAll : List Variable → ℕ → Slots → List Formal → List Passed → List CallPlace → Type 0
+abbrev pub MatchAll : List CellName → ℕ → Slots → List Formal → List Passed → List CallPlace → Type 0
 MatchAll names D h params [] [] = Unit {0}
 MatchAll names D h params [] (pl ∷ pls) = ⊥
 MatchAll names D h params (a ∷ passed) [] = ⊥
 MatchAll names D h [] (a ∷ passed) (pl ∷ pls) = ⊥
 MatchAll names D h (p ∷ params) (a ∷ passed) (pl ∷ pls) = Matches p.mode names D h a pl × MatchAll names D h params passed pls
 
-spot_more : (names : List Variable) (D E : ℕ) (h h1 : Slots) (spot : Spot) (pl : CallPlace) → D ≤ E → ((i : ℕ) → i < D → h1 i ≡ h i) → SpotAt names D h spot pl → SpotAt names E h1 spot pl
+spot_more : (names : List CellName) (D E : ℕ) (h h1 : Slots) (spot : Spot) (pl : CallPlace) → D ≤ E → ((i : ℕ) → i < D → h1 i ≡ h i) → SpotAt names D h spot pl → SpotAt names E h1 spot pl
 spot_more names D E h h1 (AtVariable x) place.Value le agree at = at
 spot_more names D E h h1 (AtVariable x) (place.Slot j) le agree at = at
 spot_more names D E h h1 (AtVariable x) (place.Element j is) le agree at = at
@@ -77,7 +77,7 @@ spot_more names D E h h1 (AtElement x index) (place.Slot j) le agree at = at
 spot_more names D E h h1 (AtElement x index) (place.Element j is) le agree at = (at.0, at.1, indexed_more (length names) D E h h1 index is le agree at.2)
 spot_more names D E h h1 (AtElement x index) (place.Table j) le agree at = at
 
-pub matches_more : (mode : Mode) (names : List Variable) (D E : ℕ) (h h1 : Slots) (a : Passed) (pl : CallPlace) → D ≤ E → ((i : ℕ) → i < D → h1 i ≡ h i) → Matches mode names D h a pl → Matches mode names E h1 a pl
+pub matches_more : (mode : Mode) (names : List CellName) (D E : ℕ) (h h1 : Slots) (a : Passed) (pl : CallPlace) → D ≤ E → ((i : ℕ) → i < D → h1 i ≡ h i) → Matches mode names D h a pl → Matches mode names E h1 a pl
 matches_more mode names D E h h1 (ByValue v) place.Value le agree at = at
 matches_more mode names D E h h1 (ByValue v) (place.Slot j) le agree at = at
 matches_more mode names D E h h1 (ByValue v) (place.Element j is) le agree at = at

@@ -2,8 +2,8 @@
 use Rattle.std.proofs.Common.{◌≡◌, ℕ, List, [], ◌∷◌, ◌++◌, length, map, reverse, take, drop, refl, sym, ap, ◌∙◌, arith, append_assoc}
 use Rattle.std.proofs.lemmas.Grind.{common_steps}
 use Rattle.kumir_values.specs.declared.value.Value.{Value}
-use Rattle.kumir_meaning.specs.Operations.{number_of}
-use Rattle.kumir_meaning.specs.Meaning.{numbers_of}
+use Rattle.kumir_meaning.specs.Operators.{number_of}
+use Rattle.kumir_meaning.specs.Expressions.{numbers_of}
 use Rattle.stack_code.specs.CodeState.{numbers}
 
 -- values that were pushed in this order

@@ -1,6 +1,6 @@
 -- The code of algorithms, of calls, and of a whole program does what they mean.
 use Rattle.std.proofs.Common.{◌≡◌, ℕ, zero, suc, ◌+◌, ◌≤◌, Bool, true, false, cond, List, [], ◌∷◌, ◌++◌, length, map, Option, Some, None, Result, Ok, Err, refl, sym, ap, ◌∙◌, subst, arith, append_assoc}
-use Rattle.std.specs.Prelude.{nat_lt, drop, find, option_map, ◌*◌}
+use Rattle.std.specs.Prelude.{nat_lt, drop, option_map, ◌*◌}
 use Rattle.kumir_tree.specs.declared.kind.Kind.{Kind}
 use Rattle.kumir_tree.specs.declared.kind.Mode.{Mode}
 use Rattle.kumir_tree.specs.Tree.{Tree}
@@ -14,12 +14,16 @@ use Rattle.kumir_values.specs.declared.value.Value.TheVariants.{Truth}
 use Rattle.kumir_values.specs.declared.run_end.RunFault.{RunFault}
 use Rattle.kumir_values.specs.declared.run_end.RunFault.TheVariants.{Depth}
 use Rattle.kumir_meaning.specs.Runs as state
-use Rattle.kumir_meaning.specs.Runs.{Rest, stops, given, choose}
-use Rattle.kumir_meaning.specs.Operations.{BuiltIn, built_in_named}
-use Rattle.kumir_meaning.specs.Store.{Variable, TheAnswer, Local, Store, fitted, given_back}
-use Rattle.kumir_meaning.specs.Callees.{Placed, Program, Callee, Called, BuiltInCall, RobotCall, PenCall, Unknown, callee, or_else, if_known, is_named, Locals, params_of, block_names}
-use Rattle.kumir_meaning.specs.Meaning.{Allowed, usual, Enter, Then, ThenValue, Passed, numbers_of, claims, some_claim, fits, gives, returns, proceeds, at_header, receives_all, copied_out, fresh, enters, starts, run}
-use Rattle.kumir_meaning.specs.Meaning as Meaning
+use Rattle.kumir_names.specs.declared.built_in.BuiltIn.{BuiltIn}
+use Rattle.kumir_names.specs.BuiltIns.{built_in_named}
+use Rattle.kumir_names.specs.Variables.{Names, parameters}
+use Rattle.kumir_names.specs.Callees.{BuiltInCall, Called, Callee, PenCall, RobotCall, if_known, is_named, or_else}
+use Rattle.kumir_meaning.specs.Program.{Placed, Program, own_name, callee_in, block_names}
+use Rattle.kumir_meaning.specs.Store.{CellName, TheAnswer, Local, Store, fitted, given_back}
+use Rattle.kumir_meaning.specs.Runs.{Rest, stops, unless_fault, choose, Allowed, usual}
+use Rattle.kumir_meaning.specs.Expressions.{Enter, Then, ThenValue, numbers_of}
+use Rattle.kumir_meaning.specs.Algorithms.{some_claim, fits, gives, returns, proceeds, at_header, receives_all, copied_out, fresh, enters, starts, run_within, run}
+use Rattle.kumir_names.specs.Callees.{algorithm_named, callee}
 use Rattle.stack_code.specs.declared.instruction.CodeLine.{CodeLine}
 use Rattle.stack_code.specs.declared.unit.ParamSlot.{ParamSlot}
 use Rattle.stack_code.specs.declared.unit.CodeUnit.{CodeUnit}
@@ -44,7 +48,7 @@ use Rattle.kumir_compiler.proofs.Statements.{block_ok}
 use Rattle.kumir_compiler.proofs.Received.{AllAmong, received, all_taken, all_back, used_back}
 
 -- ---- formal bounds, `дано` and `надо`
-module _ (al : Allowed) (p : Program) (cs : List CodeUnit) (u : ℕ) (fr : List Frame) (enter : Enter) (names : List Variable) (answer : Option Kind) (first : ℕ) (row : ℕ) (locals : Locals) (N : ℕ) (h : Slots) (ok : EnterOk al p cs u fr enter N) where
+module _ (al : Allowed) (p : Program) (cs : List CodeUnit) (u : ℕ) (fr : List Frame) (enter : Enter) (names : List CellName) (answer : Option Kind) (first : ℕ) (row : ℕ) (locals : Names) (N : ℕ) (h : Slots) (ok : EnterOk al p cs u fr enter N) where
   abbrev T : Site
   T = site al p cs u fr enter names answer first row locals
 
@@ -77,32 +81,32 @@ module _ (al : Allowed) (p : Program) (cs : List CodeUnit) (u : ℕ) (fr : List 
       (λ s1 slots1 same1. fits_ok params known.1 are.1 w.0 end s1 slots1 stack k w.2 same1 go)
 
 -- ---- an algorithm
-params_among : (before more : List Variable) (params : List Formal) → AllAmong (before ++ (map (λ l. Local l.0) (params_of params) ++ more)) params
+params_among : (before more : List CellName) (params : List Formal) → AllAmong (before ++ (map (λ l. Local l.0) (parameters params) ++ more)) params
 params_among before more [] = tt
 params_among before more (q ∷ params) =
-    let tail : List Variable = map (λ l. Local l.0) (params_of params) ++ more in (
+    let tail : List CellName = map (λ l. Local l.0) (parameters params) ++ more in (
       among_behind before (Local q.name ∷ tail) (Local q.name) (ap (λ b. cond b true (is_among tail (Local q.name))) (same_itself (Local q.name))),
       subst (λ l. AllAmong l params) (append_assoc before (Local q.name ∷ []) tail) (params_among (before ++ Local q.name ∷ []) more params),
     )
 
-map_both : (xs ys : Locals) → map (λ l. Local l.0) (xs ++ ys) ≡ map (λ l. Local l.0) xs ++ map (λ l. Local l.0) ys
+map_both : (xs ys : Names) → map (λ l. Local l.0) (xs ++ ys) ≡ map (λ l. Local l.0) xs ++ map (λ l. Local l.0) ys
 map_both [] ys = refl
 map_both (x ∷ xs) ys = ap (λ l. Local x.0 ∷ l) (map_both xs ys)
 
 pub header_params : (a : Placed) → AllAmong (variables_of a) a.algorithm.head.params
 header_params a =
-    subst (λ l. AllAmong (answer_of a.algorithm.head.gives ++ l) a.algorithm.head.params) (sym (map_both (params_of a.algorithm.head.params) (block_names a.algorithm.body)))
+    subst (λ l. AllAmong (answer_of a.algorithm.head.gives ++ l) a.algorithm.head.params) (sym (map_both (parameters a.algorithm.head.params) (block_names a.algorithm.body)))
     (params_among (answer_of a.algorithm.head.gives) (map (λ l. Local l.0) (block_names a.algorithm.body)) a.algorithm.head.params)
 
-answer_among : (k : Kind) (more : List Variable) → is_among (answer_of (Some k) ++ more) TheAnswer ≡ true
+answer_among : (k : Kind) (more : List CellName) → is_among (answer_of (Some k) ++ more) TheAnswer ≡ true
 answer_among k more = refl
 
 module _ (al : Allowed) (p : Program) (cs : List CodeUnit) where
   -- the end of an algorithm: its value, or the fault, and then the return
-  returned : (o : Option Kind) (more : List Variable) (N row : ℕ) (fr : List Frame) (params : List ParamSlot) (g : Store) (gs : Slots) (now : State) (k : ThenValue) → Same (answer_of o ++ more) 0 no_slots g gs → now.slots ≡ gs → now.frames ≡ fr
-      → (t : Site) → t.variables ≡ answer_of o ++ more → step al cs now ≡ code.returns (answer_slot o t) params row now
+  returned : (o : Option Kind) (more : List CellName) (N row : ℕ) (fr : List Frame) (params : List ParamSlot) (g : Store) (gs : Slots) (now : State) (k : ThenValue) → Same (answer_of o ++ more) 0 no_slots g gs → now.slots ≡ gs → now.frames ≡ fr
+      → (t : Site) → t.variables ≡ answer_of o ++ more → step al cs now ≡ code.leaves_unit (answer_slot o t) params row now
       → ((v : Value) → step al cs now ≡ code.returns_to fr params gs (with_answer o v []) → Reaches al cs N now (k v g))
-      → Reaches al cs N now (given (gives o g) row (λ v. k v g))
+      → Reaches al cs N now (unless_fault (gives o g) row (λ v. k v g))
   returned None more N row fr params g gs now k same e1 e2 t it e go =
       go (Truth false) (e ∙ ap (λ l. code.returns_to l params now.slots []) e2 ∙ ap (λ l. code.returns_to fr params l []) e1)
   returned (Some kind) more N row fr params g gs now k same e1 e2 t it e go = by_result (given_back (g.cells TheAnswer)) refl
@@ -113,9 +117,9 @@ module _ (al : Allowed) (p : Program) (cs : List CodeUnit) where
       is : (r : Result Value RunFault) → given_back (g.cells TheAnswer) ≡ r → step al cs now ≡ code.with_answer r row (λ value. code.returns_to now.frames params now.slots value)
       is r f = e ∙ ap (λ c. code.with_answer (given_back c) row (λ value. code.returns_to now.frames params now.slots value)) cell ∙ ap (λ w. code.with_answer w row (λ value. code.returns_to now.frames params now.slots value)) f
 
-      by_result : (r : Result Value RunFault) → given_back (g.cells TheAnswer) ≡ r → Reaches al cs N now (given (given_back (g.cells TheAnswer)) row (λ v. k v g))
-      by_result (Err fault) f = subst (λ w. Reaches al cs N now (given w row (λ v. k v g))) (sym f) (on_halt al cs N now (state.Fault row fault) (is (Err fault) f))
-      by_result (Ok v) f = subst (λ w. Reaches al cs N now (given w row (λ v. k v g))) (sym f)
+      by_result : (r : Result Value RunFault) → given_back (g.cells TheAnswer) ≡ r → Reaches al cs N now (unless_fault (given_back (g.cells TheAnswer)) row (λ v. k v g))
+      by_result (Err fault) f = subst (λ w. Reaches al cs N now (unless_fault w row (λ v. k v g))) (sym f) (on_halt al cs N now (state.Fault row fault) (is (Err fault) f))
+      by_result (Ok v) f = subst (λ w. Reaches al cs N now (unless_fault w row (λ v. k v g))) (sym f)
           (go v (is (Ok v) f ∙ ap (λ l. code.returns_to l params now.slots (v ∷ [])) e2 ∙ ap (λ l. code.returns_to fr params l (v ∷ [])) e1))
 
   -- an algorithm from its begin to its return
@@ -125,7 +129,7 @@ module _ (al : Allowed) (p : Program) (cs : List CodeUnit) where
   proceeds_ok a can u fr enter n N is le ok g gs k same go =
       let t = header_site p a in
       let row = a.first + a.algorithm.head.line in
-      let locals = params_of a.algorithm.head.params in
+      let locals = parameters a.algorithm.head.params in
       let names = variables_of a in
       let Lines = (unit_at cs u).body in
       let code0 = algorithm_code a t in
@@ -136,8 +140,8 @@ module _ (al : Allowed) (p : Program) (cs : List CodeUnit) where
       let w4 = parts Lines w3.0 (some_claim_code a.algorithm.wanted t) _ (length code0) w3.2 in
       let back : GoesOn al cs u fr t N 0 no_slots w3.0 [] (returns a (at_header p al.room enter a) k) =
       λ s1 slots1 same1. some_claim_ok al p cs u fr enter names a.algorithm.head.gives a.first row locals N no_slots ok a.algorithm.wanted can.wanted w3.0 w4.0 s1 slots1 [] _ w4.1 same1
-      (λ s2 slots2 same2. returned a.algorithm.head.gives (map (λ l. Local l.0) (params_of a.algorithm.head.params ++ block_names a.algorithm.body)) N (a.first + a.algorithm.close) fr (param_slots a.algorithm.head.params t) s2 slots2 (here u fr w4.0 [] slots2 s2.used) k same2 refl refl t refl
-      (line al cs u fr t N 0 no_slots w4.0 [] slots2 s2 _ w4.2.0 ∙ ap (λ q. code.returns q.gives q.params (a.first + a.algorithm.close) (here u fr w4.0 [] slots2 s2.used)) is)
+      (λ s2 slots2 same2. returned a.algorithm.head.gives (map (λ l. Local l.0) (parameters a.algorithm.head.params ++ block_names a.algorithm.body)) N (a.first + a.algorithm.close) fr (param_slots a.algorithm.head.params t) s2 slots2 (here u fr w4.0 [] slots2 s2.used) k same2 refl refl t refl
+      (line al cs u fr t N 0 no_slots w4.0 [] slots2 s2 _ w4.2.0 ∙ ap (λ q. code.leaves_unit q.gives q.params (a.first + a.algorithm.close) (here u fr w4.0 [] slots2 s2.used)) is)
       (λ v e. go v s2 slots2 (here u fr w4.0 [] slots2 s2.used) same2 e)) in
       let e0 : w3.0 ≡ w3.0 + 0 = omega arith in
       fits_ok al p cs u fr enter names a.algorithm.head.gives a.first row locals N no_slots ok a.algorithm.head.params (header_params a) can.params 0 w1.0 g gs [] _ w1.1 same
@@ -145,34 +149,35 @@ module _ (al : Allowed) (p : Program) (cs : List CodeUnit) where
       (λ s2 slots2 same2. block_ok al p cs u fr enter names a.algorithm.head.gives a.first a.algorithm.body row locals n N 0 0 no_slots le ok can.body w2.0 w3.0 w3.0 s2 slots2 [] (returns a (at_header p al.room enter a) k) (returns a (at_header p al.room enter a) k) w3.1 e0 same2 back back))
 
 -- ---- what is called
-built_in_first : (o : Option BuiltIn) (c : Callee) (a : Placed) → or_else (option_map BuiltInCall o) c ≡ Called a → c ≡ Called a
+built_in_first : (o : Option BuiltIn) (c : Option (Callee Placed)) (a : Placed) → or_else (option_map BuiltInCall o) c ≡ Some (Called a) → c ≡ Some (Called a)
 built_in_first None c a e = e
 built_in_first (Some b) c a e = absurd (let none : ⊥ = cc in none)
 
-robot_first : (o : Option RobotCommand) (c : Callee) (a : Placed) → or_else (option_map RobotCall o) c ≡ Called a → c ≡ Called a
+robot_first : (o : Option RobotCommand) (c : Option (Callee Placed)) (a : Placed) → or_else (option_map RobotCall o) c ≡ Some (Called a) → c ≡ Some (Called a)
 robot_first None c a e = e
 robot_first (Some b) c a e = absurd (let none : ⊥ = cc in none)
 
-pen_first : (o : Option PenShape) (c : Callee) (a : Placed) → or_else (option_map PenCall o) c ≡ Called a → c ≡ Called a
+pen_first : (o : Option PenShape) (c : Option (Callee Placed)) (a : Placed) → or_else (option_map PenCall o) c ≡ Some (Called a) → c ≡ Some (Called a)
 pen_first None c a e = e
 pen_first (Some b) c a e = absurd (let none : ⊥ = cc in none)
 
-algorithm_last : (o : Option Placed) (a : Placed) → or_else (option_map Called o) Unknown ≡ Called a → o ≡ Some a
+algorithm_last : (o : Option Placed) (a : Placed) → option_map Called o ≡ Some (Called a) → o ≡ Some a
 algorithm_last None a e = absurd (let none : ⊥ = cc in none)
 algorithm_last (Some b) a e = cc
 
-is_found : (p : Program) (f : List ℕ) (a : Placed) → callee p f ≡ Called a → find (λ b. is_named f b.algorithm.head.name) p.algorithms ≡ Some a
+is_found : (p : Program) (f : List ℕ) (a : Placed) → callee_in p f ≡ Some (Called a) → algorithm_named own_name f p.algorithms ≡ Some a
+unfolding callee
 is_found p f a e =
-    algorithm_last (find (λ b. is_named f b.algorithm.head.name) p.algorithms) a
+    algorithm_last (algorithm_named own_name f p.algorithms) a
     (pen_first (if_known p.performers.pen (pen_shape_named f)) _ a
     (robot_first (if_known p.performers.robot (robot_command_named f)) _ a
     (built_in_first (built_in_named f) _ a e)))
 
-unit_found : (p : Program) (f : List ℕ) (a : Placed) (l : List Placed) → AreCompilable p l → find (λ b. is_named f b.algorithm.head.name) l ≡ Some a → (unit_at (map (λ b. unit_code p b) l) (number_of_unit l f) ≡ unit_code p a) × IsCompilableAlgorithm p a
+unit_found : (p : Program) (f : List ℕ) (a : Placed) (l : List Placed) → AreCompilable p l → algorithm_named own_name f l ≡ Some a → (unit_at (map (λ b. unit_code p b) l) (number_of_unit l f) ≡ unit_code p a) × IsCompilableAlgorithm p a
 unit_found p f a [] can e = absurd (let none : ⊥ = cc in none)
 unit_found p f a (b ∷ l) can e = go (is_named f b.algorithm.head.name) (unit_found p f a l can.1) e
   where
-    go : (c : Bool) → (find (λ b. is_named f b.algorithm.head.name) l ≡ Some a → (unit_at (map (λ b. unit_code p b) l) (number_of_unit l f) ≡ unit_code p a) × IsCompilableAlgorithm p a) → cond c (Some b) (find (λ b. is_named f b.algorithm.head.name) l) ≡ Some a
+    go : (c : Bool) → (algorithm_named own_name f l ≡ Some a → (unit_at (map (λ b. unit_code p b) l) (number_of_unit l f) ≡ unit_code p a) × IsCompilableAlgorithm p a) → cond c (Some b) (algorithm_named own_name f l) ≡ Some a
         → (unit_at (unit_code p b ∷ map (λ b. unit_code p b) l) (cond c 0 (suc (number_of_unit l f))) ≡ unit_code p a) × IsCompilableAlgorithm p a
     go false later e = later e
     go true later e = let is : b ≡ a = cc in (ap (unit_code p) is, subst (IsCompilableAlgorithm p) is can.0)
@@ -196,18 +201,18 @@ enters_all al p can (suc n) N u fr deep le is = record {
       let now : State = here u fr pc (onto (all_pushed passed) stack) slots s.used in
       let len = sym (all_taken (variables_of a) names D h a.algorithm.head.params passed places match) in
       let event = line_at al cs u fr pc (onto (all_pushed passed) stack) slots s.used _ at
-      ∙ ap (λ q. code.calls al q u1 places row now) found.0
-      ∙ ap (λ l. cond (nat_lt (length fr + 1) al.depth) (if_fine (code.receives_all al.room params places l slots (no_slots, s.used)) row (λ g. record { unit = u1; pc = 0; stack = []; slots = g.0; used = g.1; frames = record { unit = u; pc = pc + 1; stack = drop (values_taken params places) (onto (all_pushed passed) stack); slots = slots; used = s.used; places = places } ∷ fr })) (Halt (state.Fault row Depth))) (taken_onto (all_pushed passed) stack (values_taken params places) len)
-      ∙ ap (λ l. cond (nat_lt (length fr + 1) al.depth) (if_fine (code.receives_all al.room params places (all_pushed passed) slots (no_slots, s.used)) row (λ g. record { unit = u1; pc = 0; stack = []; slots = g.0; used = g.1; frames = record { unit = u; pc = pc + 1; stack = l; slots = slots; used = s.used; places = places } ∷ fr })) (Halt (state.Fault row Depth))) (drop_onto (all_pushed passed) stack (values_taken params places) len)
-      ∙ ap (λ m. cond (nat_lt m al.depth) (if_fine (code.receives_all al.room params places (all_pushed passed) slots (no_slots, s.used)) row begun) (Halt (state.Fault row Depth))) (sym is) in
+      ∙ ap (λ q. code.enters_unit al q u1 places row now) found.0
+      ∙ ap (λ l. cond (nat_lt (length fr + 1) al.depth) (if_fine (code.fills_slots al.room params places l slots (no_slots, s.used)) row (λ g. record { unit = u1; pc = 0; stack = []; slots = g.0; used = g.1; frames = record { unit = u; pc = pc + 1; stack = drop (values_taken params places) (onto (all_pushed passed) stack); slots = slots; used = s.used; places = places } ∷ fr })) (Halt (state.Fault row Depth))) (taken_onto (all_pushed passed) stack (values_taken params places) len)
+      ∙ ap (λ l. cond (nat_lt (length fr + 1) al.depth) (if_fine (code.fills_slots al.room params places (all_pushed passed) slots (no_slots, s.used)) row (λ g. record { unit = u1; pc = 0; stack = []; slots = g.0; used = g.1; frames = record { unit = u; pc = pc + 1; stack = l; slots = slots; used = s.used; places = places } ∷ fr })) (Halt (state.Fault row Depth))) (drop_onto (all_pushed passed) stack (values_taken params places) len)
+      ∙ ap (λ m. cond (nat_lt m al.depth) (if_fine (code.fills_slots al.room params places (all_pushed passed) slots (no_slots, s.used)) row begun) (Halt (state.Fault row Depth))) (sym is) in
       let deeper : suc deep ≡ length (frame ∷ fr) + 1 = omega arith in
       let inside : Then = λ s1. receives_all al.room a.algorithm.head.params passed row s1 (proceeds a (at_header p al.room (enters p al n (suc deep)) a) n (λ v g. k v (copied_out a.algorithm.head.params passed g s1))) (fresh s1.used) in
-      begins M row now s (if_fine (code.receives_all al.room params places (all_pushed passed) slots (no_slots, s.used)) row begun) inside (nat_lt deep al.depth) event
+      begins M row now s (if_fine (code.fills_slots al.room params places (all_pushed passed) slots (no_slots, s.used)) row begun) inside (nat_lt deep al.depth) event
       (λ e1. received al cs names (variables_of a) D h s slots same M row now begun (header_site p a) refl a.algorithm.head.params passed places (fresh s.used) no_slots _ (header_params a) (record { vars = λ x known. refl; kept = λ i below. absurd (omega arith) }) match e1
       (λ g1 gs1 gsame. proceeds_ok al p cs a found.1 u1 (frame ∷ fr) (enters p al n (suc deep)) n M found.0 (omega arith) (enters_all al p can n M u1 (frame ∷ fr) (suc deep) (omega arith) deeper) g1 gs1 _ gsame
       (λ v g2 gs2 now2 gsame2 e2. on_go al cs M now2 _ _ e2
-      (subst (λ l. Reaches al cs M (here u fr (pc + 1) l (code.copied_out params places gs2 slots) s.used) (k v (copied_out a.algorithm.head.params passed g2 s))) (sym (answer_on a.algorithm.head.gives v stack))
-      (subst (λ m. Reaches al cs M (here u fr (pc + 1) (with_answer a.algorithm.head.gives v stack) (code.copied_out params places gs2 slots) m) (k v (copied_out a.algorithm.head.params passed g2 s))) (used_back a.algorithm.head.params passed g2 s)
+      (subst (λ l. Reaches al cs M (here u fr (pc + 1) l (code.copied_to_places params places gs2 slots) s.used) (k v (copied_out a.algorithm.head.params passed g2 s))) (sym (answer_on a.algorithm.head.gives v stack))
+      (subst (λ m. Reaches al cs M (here u fr (pc + 1) (with_answer a.algorithm.head.gives v stack) (code.copied_to_places params places gs2 slots) m) (k v (copied_out a.algorithm.head.params passed g2 s))) (used_back a.algorithm.head.params passed g2 s)
       (go v _ _ (all_back (variables_of a) names D h a.algorithm.head.params passed places g2 gs2 s slots (header_params a) match gsame2 same)))))));
 }
   where
@@ -228,5 +233,5 @@ starts_ok al p can n (a ∷ more) is =
     (λ v g1 gs1 now same e. on_halt al (code_of p) n now state.Done e)
 
 pub code_means : (p : Program) → IsCompilable p → (inputs : List Value) (replies : List Reply) (n : ℕ) → CodeRun (code_of p) 0 inputs replies n (run p inputs replies n)
-unfolding run Meaning.run_within
+unfolding run run_within
 code_means p can inputs replies n = let x = (starts_ok usual p can n p.algorithms refl).by n (omega arith) inputs replies in record { instructions = x.0; ends = x.1 }

@@ -6,13 +6,12 @@ use Rattle.performer_kit.specs.declared.commands.Command.{Command}
 use Rattle.performer_kit.specs.declared.commands.Reply.{Reply}
 use Rattle.kumir_values.specs.declared.value.Value.{Value}
 use Rattle.kumir_values.specs.declared.run_end.RunFault.{RunFault}
-use Rattle.kumir_meaning.specs.Runs.{Act, Sent, RunState, Going, Fault, Rest, stops, given, tick, does, asks, takes, choose, input_as}
 use Rattle.kumir_meaning.specs.Store.{Store}
-use Rattle.kumir_meaning.specs.Meaning.{Allowed}
+use Rattle.kumir_meaning.specs.Runs.{Act, Sent, RunState, Going, Fault, Rest, stops, unless_fault, tick, does, asks, takes, choose, input_as, Allowed}
 use Rattle.stack_code.specs.declared.instruction.CodeLine.{CodeLine}
 use Rattle.stack_code.specs.declared.unit.CodeUnit.{CodeUnit}
 use Rattle.stack_code.specs.CodeState.{State, Frame, Slots, next}
-use Rattle.stack_code.specs.Instructions.{After, On, Over, Go, Tick, Does, Asks, Takes, Halt, gives, if_fine, unit_at, acts, acts_at, step}
+use Rattle.stack_code.specs.Instructions.{After, On, Over, Go, Tick, Does, Asks, Takes, Halt, pushes_result, if_fine, unit_at, event_of, event_at, step}
 use Rattle.stack_code.specs.CodeRuns.{meet, after_some, after_reply, after_input, exec}
 
 abbrev pub here : ℕ → List Frame → ℕ → List Value → Slots → ℕ → State
@@ -82,7 +81,7 @@ module _ (al : Allowed) (cs : List CodeUnit) where
   pub on_takes : (N : ℕ) (s : State) (kind : Kind) (line : ℕ) (to : Value → State) (k : Value → Store → Rest) (g : Store) → step al cs s ≡ Takes kind line to → ((v : Value) → Reaches al cs N (to v) (k v g)) → Reaches al cs N s (takes kind line k g)
   on_takes N s kind line to k g e f = record { by = go }
     where
-      taken : (x : Result Value RunFault) (n : ℕ) → n ≤ N → (ins : List Value) (reps : List Reply) → (j : ℕ) × (after_input x line to (exec al cs j) n ins reps ≡ Some (given x line (λ w. k w g) n ins reps))
+      taken : (x : Result Value RunFault) (n : ℕ) → n ≤ N → (ins : List Value) (reps : List Reply) → (j : ℕ) × (after_input x line to (exec al cs j) n ins reps ≡ Some (unless_fault x line (λ w. k w g) n ins reps))
       taken (Ok v) n h ins reps = (f v).by n h ins reps
       taken (Err fault) n h ins reps = (0, refl)
 
@@ -90,16 +89,16 @@ module _ (al : Allowed) (cs : List CodeUnit) where
       go n h [] reps = (1, ap (λ v. meet v (exec al cs 0) n [] reps) e)
       go n h (v ∷ ins) reps = let x = taken (input_as kind v) n h ins reps in (suc x.0, ap (λ w. meet w (exec al cs x.0) n (v ∷ ins) reps) e ∙ x.1)
 
-  pub on_fine : {T : Type 0} (g : Result T RunFault) (N line : ℕ) (to : T → State) (s : State) (k : T → Rest) → step al cs s ≡ if_fine g line to → ((x : T) → g ≡ Ok x → Reaches al cs N (to x) (k x)) → Reaches al cs N s (given g line k)
+  pub on_fine : {T : Type 0} (g : Result T RunFault) (N line : ℕ) (to : T → State) (s : State) (k : T → Rest) → step al cs s ≡ if_fine g line to → ((x : T) → g ≡ Ok x → Reaches al cs N (to x) (k x)) → Reaches al cs N s (unless_fault g line k)
   on_fine (Ok x) N line to s k e f = on_go N s (to x) (k x) e (f x refl)
   on_fine (Err fault) N line to s k e f = on_halt N s (Fault line fault) e
 
-  pub on_gives : (g : Result Value RunFault) (N line : ℕ) (m : State) (stack : List Value) (s : State) (k : Value → Rest) → step al cs s ≡ gives g line m stack → ((v : Value) → Reaches al cs N (next m (v ∷ stack)) (k v)) → Reaches al cs N s (given g line k)
+  pub on_gives : (g : Result Value RunFault) (N line : ℕ) (m : State) (stack : List Value) (s : State) (k : Value → Rest) → step al cs s ≡ pushes_result g line m stack → ((v : Value) → Reaches al cs N (next m (v ∷ stack)) (k v)) → Reaches al cs N s (unless_fault g line k)
   on_gives (Ok v) N line m stack s k e f = on_go N s (next m (v ∷ stack)) (k v) e (f v)
   on_gives (Err fault) N line m stack s k e f = on_halt N s (Fault line fault) e
 
-  pub line_at : (u : ℕ) (fr : List Frame) (pc : ℕ) (stack : List Value) (slots : Slots) (used : ℕ) (l : CodeLine) → slice_get (unit_at cs u).body pc ≡ Some l → step al cs (here u fr pc stack slots used) ≡ acts al cs l.what l.line (here u fr pc stack slots used)
-  line_at u fr pc stack slots used l h = ap (λ o. acts_at al cs o (here u fr pc stack slots used)) h
+  pub line_at : (u : ℕ) (fr : List Frame) (pc : ℕ) (stack : List Value) (slots : Slots) (used : ℕ) (l : CodeLine) → slice_get (unit_at cs u).body pc ≡ Some l → step al cs (here u fr pc stack slots used) ≡ event_of al cs l.what l.line (here u fr pc stack slots used)
+  line_at u fr pc stack slots used l h = ap (λ o. event_at al cs o (here u fr pc stack slots used)) h
 
   -- the place under another name
   pub moved : (u : ℕ) (fr : List Frame) (N pc q : ℕ) (stack : List Value) (slots : Slots) (used : ℕ) (a : Rest) → pc ≡ q → Reaches al cs N (here u fr q stack slots used) a → Reaches al cs N (here u fr pc stack slots used) a

@@ -9,9 +9,10 @@ use Rattle.kumir_values.specs.declared.value.Value.{Value}
 use Rattle.kumir_values.specs.declared.run_end.RunFault.{RunFault}
 use Rattle.kumir_values.specs.declared.run_end.RunFault.TheVariants.{Unset, Elements}
 use Rattle.kumir_values.specs.Bounds.{elements}
-use Rattle.kumir_meaning.specs.Runs.{given, Fault, Rest}
-use Rattle.kumir_meaning.specs.Store.{Variable, Local, Store, Cell, Empty, Has, Holds, Spot, AtVariable, AtElement, with_cell, cell_of, value_in, with_element}
-use Rattle.kumir_meaning.specs.Meaning.{Allowed, Then, Passed, ByValue, ByPlace, ByTable, table_for, receives, receives_table, receives_all, back_to, by_mode, copied_out}
+use Rattle.kumir_meaning.specs.Store.{CellName, Local, Store, Cell, Empty, Has, Holds, Spot, AtVariable, AtElement, with_cell, cell_of, value_in, with_element}
+use Rattle.kumir_meaning.specs.Runs.{unless_fault, Fault, Rest, Allowed}
+use Rattle.kumir_meaning.specs.Expressions.{Then, Passed, ByValue, ByPlace, ByTable}
+use Rattle.kumir_meaning.specs.Algorithms.{table_for, receives, receives_table, receives_all, back_to, by_mode, copied_out}
 use Rattle.stack_code.specs.declared.instruction.CallPlace.{CallPlace}
 use Rattle.stack_code.specs.declared.instruction.CallPlace.TheVariants as place
 use Rattle.stack_code.specs.declared.unit.CodeUnit.{CodeUnit}
@@ -24,11 +25,11 @@ use Rattle.kumir_compiler.proofs.Cells.{Same, stored, counted}
 use Rattle.kumir_compiler.proofs.Reach.{Reaches, on_go, on_halt}
 use Rattle.kumir_compiler.proofs.Matches.{Indexed, SpotAt, Filled, Matches, MatchAll, pushed, all_pushed}
 
-abbrev pub AllAmong : List Variable → List Formal → Type 0
+abbrev pub AllAmong : List CellName → List Formal → Type 0
 AllAmong inner [] = Unit {0}
 AllAmong inner (p ∷ params) = (is_among inner (Local p.name) ≡ true) × AllAmong inner params
 
-module _ (al : Allowed) (cs : List CodeUnit) (names inner : List Variable) (D : ℕ) (h : Slots) (s : Store) (slots : Slots) (same : Same names D h s slots) (N row : ℕ) (st : State) (F : Begun → State) where
+module _ (al : Allowed) (cs : List CodeUnit) (names inner : List CellName) (D : ℕ) (h : Slots) (s : Store) (slots : Slots) (same : Same names D h s slots) (N row : ℕ) (st : State) (F : Begun → State) where
   -- the rest of the parameters, by the values that are left
   abbrev More : Type 0
   More = List Value → Begun → Result Begun RunFault
@@ -37,14 +38,14 @@ module _ (al : Allowed) (cs : List CodeUnit) (names inner : List Variable) (D : 
   Next vs more g gs k = (g1 : Store) (gs1 : Slots) → Same inner 0 no_slots g1 gs1 → step al cs st ≡ if_fine (more vs (gs1, g1.used)) row F → Reaches al cs N st (k g1)
 
   table_received : (mode : Mode) (kind : Kind) (name : List ℕ) (bounds : Option Limits) (c : Cell) (vs : List Value) (more : More) (g : Store) (gs : Slots) (k : Store → Rest) → is_among inner (Local name) ≡ true → Same inner 0 no_slots g gs
-      → step al cs st ≡ if_fine (and_then (code.receives_table al.room (record { mode = mode; slot = position inner (Local name) }) c (gs, g.used)) (λ g1. more vs g1)) row F → Next vs more g gs k
-      → Reaches al cs N st (given (receives_table al.room (record { mode = mode; kind = kind; name = name; bounds = bounds }) c g) row k)
+      → step al cs st ≡ if_fine (and_then (code.fills_with_table al.room (record { mode = mode; slot = position inner (Local name) }) c (gs, g.used)) (λ g1. more vs g1)) row F → Next vs more g gs k
+      → Reaches al cs N st (unless_fault (receives_table al.room (record { mode = mode; kind = kind; name = name; bounds = bounds }) c g) row k)
   table_received mode kind name bounds Empty vs more g gs k known gsame e next = on_halt al cs N st (Fault row Unset) e
   table_received mode kind name bounds (Has v) vs more g gs k known gsame e next = on_halt al cs N st (Fault row Unset) e
   table_received mode kind name bounds (Holds m) vs more g gs k known gsame e next = go (nat_le (g.used + elements m.bounds) al.room) e
     where
       go : (b : Bool) → step al cs st ≡ if_fine (and_then (cond b (Ok (with_slot gs (position inner (Local name)) (Plain (table_for mode m)), g.used + elements m.bounds)) (Err Elements)) (λ g1. more vs g1)) row F
-          → Reaches al cs N st (given (cond b (Ok (record { cells = (with_cell g (Local name) (table_for mode m)).cells; used = g.used + elements m.bounds })) (Err Elements)) row k)
+          → Reaches al cs N st (unless_fault (cond b (Ok (record { cells = (with_cell g (Local name) (table_for mode m)).cells; used = g.used + elements m.bounds })) (Err Elements)) row k)
       go true e = next _ _ (counted inner 0 no_slots _ _ (g.used + elements m.bounds) (stored inner 0 no_slots g gs (Local name) (table_for mode m) (Plain (table_for mode m)) known refl gsame)) e
       go false e = on_halt al cs N st (Fault row Elements) e
 
@@ -54,7 +55,7 @@ module _ (al : Allowed) (cs : List CodeUnit) (names inner : List Variable) (D : 
 
   abbrev Event : Mode → List ℕ → Passed → CallPlace → List Value → More → Store → Slots → Type 0
   Event mode name a pl vs more g gs =
-      step al cs st ≡ if_fine (and_then (code.receives al.room (record { mode = mode; slot = position inner (Local name) }) (table_of pl) (takes_value mode pl) (pushed a ++ vs) slots (gs, g.used)) (λ g1. more (cond (takes_value mode pl) (rest (pushed a ++ vs)) (pushed a ++ vs)) g1)) row F
+      step al cs st ≡ if_fine (and_then (code.fills_slot al.room (record { mode = mode; slot = position inner (Local name) }) (table_of pl) (takes_value mode pl) (pushed a ++ vs) slots (gs, g.used)) (λ g1. more (cond (takes_value mode pl) (rest (pushed a ++ vs)) (pushed a ++ vs)) g1)) row F
 
   spot_received : (mode : Mode) (kind : Kind) (name : List ℕ) (bounds : Option Limits) (x : Spot) (v : Option Value) (pl : CallPlace) (vs : List Value) (more : More) (g : Store) (gs : Slots) (k : Store → Rest) → is_among inner (Local name) ≡ true → Same inner 0 no_slots g gs
       → SpotAt names D h x pl → Filled mode v → Event mode name (ByPlace x v) pl vs more g gs → Next vs more g gs k → Reaches al cs N st (k (with_cell g (Local name) (cell_of v)))
@@ -89,10 +90,10 @@ module _ (al : Allowed) (cs : List CodeUnit) (names inner : List Variable) (D : 
   by_value ArgRes = refl
 
   one_received : (mode : Mode) (kind : Kind) (name : List ℕ) (bounds : Option Limits) (a : Passed) (pl : CallPlace) (vs : List Value) (more : More) (g : Store) (gs : Slots) (k : Store → Rest) → is_among inner (Local name) ≡ true → Same inner 0 no_slots g gs
-      → Matches mode names D h a pl → Event mode name a pl vs more g gs → Next vs more g gs k → Reaches al cs N st (given (receives al.room (record { mode = mode; kind = kind; name = name; bounds = bounds }) a s g) row k)
+      → Matches mode names D h a pl → Event mode name a pl vs more g gs → Next vs more g gs k → Reaches al cs N st (unless_fault (receives al.room (record { mode = mode; kind = kind; name = name; bounds = bounds }) a s g) row k)
   one_received mode kind name bounds (ByValue v) place.Value vs more g gs k known gsame at e next =
       cell_received mode kind name bounds (Has v) vs more g gs k known gsame
-      (e ∙ ap (λ b. if_fine (and_then (code.receives al.room (record { mode = mode; slot = position inner (Local name) }) None b (v ∷ vs) slots (gs, g.used)) (λ g1. more (cond b vs (v ∷ vs)) g1)) row F) (by_value mode)) next
+      (e ∙ ap (λ b. if_fine (and_then (code.fills_slot al.room (record { mode = mode; slot = position inner (Local name) }) None b (v ∷ vs) slots (gs, g.used)) (λ g1. more (cond b vs (v ∷ vs)) g1)) row F) (by_value mode)) next
   one_received mode kind name bounds (ByValue v) (place.Slot j) vs more g gs k known gsame at e next = absurd at
   one_received mode kind name bounds (ByValue v) (place.Element j is) vs more g gs k known gsame at e next = absurd at
   one_received mode kind name bounds (ByValue v) (place.Table j) vs more g gs k known gsame at e next = absurd at
@@ -102,12 +103,12 @@ module _ (al : Allowed) (cs : List CodeUnit) (names inner : List Variable) (D : 
   one_received mode kind name bounds (ByTable x) (place.Element j is) vs more g gs k known gsame at e next = absurd at
   one_received mode kind name bounds (ByTable x) (place.Table j) vs more g gs k known gsame at e next =
       table_received mode kind name bounds (s.cells (Local x)) vs more g gs k known gsame
-      (e ∙ ap (λ b. if_fine (and_then (code.receives_table al.room (record { mode = mode; slot = position inner (Local name) }) (cell_in (slots j)) (gs, g.used)) (λ g1. more (cond b (rest vs) vs) g1)) row F) (by_table mode j vs)
-      ∙ ap (λ c. if_fine (and_then (code.receives_table al.room (record { mode = mode; slot = position inner (Local name) }) c (gs, g.used)) (λ g1. more vs g1)) row F) (ap (λ i. cell_in (slots i)) at.0 ∙ same.vars (Local x) at.1)) next
+      (e ∙ ap (λ b. if_fine (and_then (code.fills_with_table al.room (record { mode = mode; slot = position inner (Local name) }) (cell_in (slots j)) (gs, g.used)) (λ g1. more (cond b (rest vs) vs) g1)) row F) (by_table mode j vs)
+      ∙ ap (λ c. if_fine (and_then (code.fills_with_table al.room (record { mode = mode; slot = position inner (Local name) }) c (gs, g.used)) (λ g1. more vs g1)) row F) (ap (λ i. cell_in (slots i)) at.0 ∙ same.vars (Local x) at.1)) next
 
   -- all parameters, in order
   pub received : (t : Site) → t.variables ≡ inner → (params : List Formal) (passed : List Passed) (places : List CallPlace) (g : Store) (gs : Slots) (k : Then) → AllAmong inner params → Same inner 0 no_slots g gs → MatchAll names D h params passed places
-      → step al cs st ≡ if_fine (code.receives_all al.room (map (λ q. record { mode = q.mode; slot = position inner (Local q.name) }) params) places (all_pushed passed) slots (gs, g.used)) row F
+      → step al cs st ≡ if_fine (code.fills_slots al.room (map (λ q. record { mode = q.mode; slot = position inner (Local q.name) }) params) places (all_pushed passed) slots (gs, g.used)) row F
       → ((g1 : Store) (gs1 : Slots) → Same inner 0 no_slots g1 gs1 → Reaches al cs N (F (gs1, g1.used)) (k g1))
       → Reaches al cs N st (receives_all al.room params passed row s k g)
   received t it [] [] [] g gs k known gsame match e go = on_go al cs N st _ (k g) e (go g gs gsame)
@@ -119,12 +120,12 @@ module _ (al : Allowed) (cs : List CodeUnit) (names inner : List Variable) (D : 
   received t it (q ∷ params) (a ∷ passed) [] g gs k known gsame match e go = absurd match
   received t it (q ∷ params) (a ∷ passed) (pl ∷ pls) g gs k known gsame match e go =
       one_received q.mode q.kind q.name q.bounds a pl (all_pushed passed)
-      (λ vs g1. code.receives_all al.room (map (λ q. record { mode = q.mode; slot = position inner (Local q.name) }) params) pls vs slots g1)
+      (λ vs g1. code.fills_slots al.room (map (λ q. record { mode = q.mode; slot = position inner (Local q.name) }) params) pls vs slots g1)
       g gs (λ g1. receives_all al.room params passed row s k g1) known.0 gsame match.0 e
       (λ g1 gs1 gsame1 e1. received t it params passed pls g1 gs1 k known.1 gsame1 match.1 e1 go)
 
 -- ---- how many values a call takes
-one_taken : (mode : Mode) (names : List Variable) (D : ℕ) (h : Slots) (a : Passed) (pl : CallPlace) → Matches mode names D h a pl → cond (takes_value mode pl) 1 0 ≡ length (pushed a)
+one_taken : (mode : Mode) (names : List CellName) (D : ℕ) (h : Slots) (a : Passed) (pl : CallPlace) → Matches mode names D h a pl → cond (takes_value mode pl) 1 0 ≡ length (pushed a)
 one_taken Arg names D h (ByValue v) place.Value at = refl
 one_taken Res names D h (ByValue v) place.Value at = refl
 one_taken ArgRes names D h (ByValue v) place.Value at = refl
@@ -153,7 +154,7 @@ one_taken Arg names D h (ByTable x) (place.Table j) at = refl
 one_taken Res names D h (ByTable x) (place.Table j) at = refl
 one_taken ArgRes names D h (ByTable x) (place.Table j) at = refl
 
-pub all_taken : (inner names : List Variable) (D : ℕ) (h : Slots) (params : List Formal) (passed : List Passed) (places : List CallPlace) → MatchAll names D h params passed places → values_taken (map (λ q. record { mode = q.mode; slot = position inner (Local q.name) }) params) places ≡ length (all_pushed passed)
+pub all_taken : (inner names : List CellName) (D : ℕ) (h : Slots) (params : List Formal) (passed : List Passed) (places : List CallPlace) → MatchAll names D h params passed places → values_taken (map (λ q. record { mode = q.mode; slot = position inner (Local q.name) }) params) places ≡ length (all_pushed passed)
 all_taken inner names D h [] [] [] match = refl
 all_taken inner names D h [] [] (pl ∷ pls) match = absurd match
 all_taken inner names D h [] (a ∷ passed) [] match = absurd match
@@ -167,7 +168,7 @@ all_taken inner names D h (q ∷ params) (a ∷ passed) (pl ∷ pls) match =
     ap (λ n. n + values_taken (map (λ q. record { mode = q.mode; slot = position inner (Local q.name) }) params) pls) e1 ∙ ap (λ n. length (pushed a) + n) e2 ∙ sym (length-append (pushed a) (all_pushed passed))
 
 -- ---- the return
-indexes_held : (names : List Variable) (D : ℕ) (h : Slots) (s : Store) (slots : Slots) (index : List ℤ) (at : List ℕ) → Same names D h s slots → Indexed (length names) D h index at → map (λ x. index_in (cell_in (slots x))) at ≡ index
+indexes_held : (names : List CellName) (D : ℕ) (h : Slots) (s : Store) (slots : Slots) (index : List ℤ) (at : List ℕ) → Same names D h s slots → Indexed (length names) D h index at → map (λ x. index_in (cell_in (slots x))) at ≡ index
 indexes_held names D h s slots [] [] same x = refl
 indexes_held names D h s slots [] (y ∷ at) same x = absurd x
 indexes_held names D h s slots (z ∷ index) [] same x = absurd x
@@ -176,7 +177,7 @@ indexes_held names D h s slots (z ∷ index) (y ∷ at) same x =
     let first : index_in (cell_in (slots y)) ≡ z = ap (λ i. index_in (cell_in (slots i))) w.2 ∙ ap (λ c. index_in (cell_in c)) (same.kept w.0 w.3 ∙ w.4) ∙ w.5 in
     ap (λ m. m ∷ map (λ x. index_in (cell_in (slots x))) at) first ∙ ap (λ l. z ∷ l) (indexes_held names D h s slots index at same x.1)
 
-came_back : (names : List Variable) (D : ℕ) (h : Slots) (s : Store) (slots : Slots) (mode : Mode) (a : Passed) (pl : CallPlace) (c c1 : Cell) → Matches mode names D h a pl → c1 ≡ c → Same names D h s slots → Same names D h (back_to a c s) (copied pl c1 slots)
+came_back : (names : List CellName) (D : ℕ) (h : Slots) (s : Store) (slots : Slots) (mode : Mode) (a : Passed) (pl : CallPlace) (c c1 : Cell) → Matches mode names D h a pl → c1 ≡ c → Same names D h s slots → Same names D h (back_to a c s) (copied pl c1 slots)
 came_back names D h s slots mode (ByValue v) place.Value c c1 at e same = same
 came_back names D h s slots mode (ByValue v) (place.Slot j) c c1 at e same = absurd at
 came_back names D h s slots mode (ByValue v) (place.Element j is) c c1 at e same = absurd at
@@ -203,14 +204,14 @@ came_back names D h s slots mode (ByTable x) (place.Element j is) c c1 at e same
 came_back names D h s slots mode (ByTable x) (place.Table j) c c1 at e same =
     subst (λ i. Same names D h (with_cell s (Local x) c) (with_slot slots i (Plain c1))) (sym at.0) (stored names D h s slots (Local x) c (Plain c1) at.1 e same)
 
-mode_back : (names : List Variable) (D : ℕ) (h : Slots) (s : Store) (slots : Slots) (mode : Mode) (a : Passed) (pl : CallPlace) (c c1 : Cell) → Matches mode names D h a pl → c1 ≡ c → Same names D h s slots → Same names D h (by_mode mode s (back_to a c s)) (copied_to mode pl c1 slots)
+mode_back : (names : List CellName) (D : ℕ) (h : Slots) (s : Store) (slots : Slots) (mode : Mode) (a : Passed) (pl : CallPlace) (c c1 : Cell) → Matches mode names D h a pl → c1 ≡ c → Same names D h s slots → Same names D h (by_mode mode s (back_to a c s)) (copied_to mode pl c1 slots)
 mode_back names D h s slots Arg a pl c c1 at e same = same
 mode_back names D h s slots Res a pl c c1 at e same = came_back names D h s slots Res a pl c c1 at e same
 mode_back names D h s slots ArgRes a pl c c1 at e same = came_back names D h s slots ArgRes a pl c c1 at e same
 
 -- the caller's variables after a return
-pub all_back : (inner names : List Variable) (D : ℕ) (h : Slots) (params : List Formal) (passed : List Passed) (places : List CallPlace) (g : Store) (gs : Slots) (s : Store) (slots : Slots) → AllAmong inner params → MatchAll names D h params passed places → Same inner 0 no_slots g gs → Same names D h s slots
-    → Same names D h (copied_out params passed g s) (code.copied_out (map (λ q. record { mode = q.mode; slot = position inner (Local q.name) }) params) places gs slots)
+pub all_back : (inner names : List CellName) (D : ℕ) (h : Slots) (params : List Formal) (passed : List Passed) (places : List CallPlace) (g : Store) (gs : Slots) (s : Store) (slots : Slots) → AllAmong inner params → MatchAll names D h params passed places → Same inner 0 no_slots g gs → Same names D h s slots
+    → Same names D h (copied_out params passed g s) (code.copied_to_places (map (λ q. record { mode = q.mode; slot = position inner (Local q.name) }) params) places gs slots)
 all_back inner names D h [] [] [] g gs s slots known match gsame same = same
 all_back inner names D h [] [] (pl ∷ pls) g gs s slots known match gsame same = absurd match
 all_back inner names D h [] (a ∷ passed) [] g gs s slots known match gsame same = absurd match

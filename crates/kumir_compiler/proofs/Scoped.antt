@@ -1,6 +1,7 @@
 -- Local names have slots.
 use Rattle.std.proofs.Common.{◌≡◌, ℕ, Bool, true, false, cond, List, [], ◌∷◌, ◌++◌, map, Option, Some, None, refl, sym, ap, subst, append_assoc}
-use Rattle.std.specs.Prelude.{find, option_map, bytes_eq}
+use Rattle.std.specs.Prelude.{nat_eq}
+use Rattle.std.specs.Cmp.Lexicographic.{pointwise}
 use Rattle.std.proofs.lemmas.Slice.Eq.{bytes_eq-Decides}
 use Rattle.kumir_tree.specs.declared.kind.Kind.{Kind}
 use Rattle.kumir_tree.specs.declared.kind.Mode.{Mode}
@@ -9,38 +10,42 @@ use Rattle.kumir_tree.specs.Tree.{Tree, Number, Truth, Answer, Named, Element, C
 use Rattle.kumir_tree.specs.Part.{Limits, Place, ToAnswer, ToScalar, ToElement, Shown, ShowValue, ShowText, ShowLine, Scalars, Tables, Formal}
 use Rattle.kumir_tree.specs.Program as tree
 use Rattle.kumir_tree.specs.Program.{Stands, Declare, Assign, Invoke, Times, While, Count, Forever, Until, Choose, Select, Assert, Input, Output, Leave, Quit, Block, done, ◌next◌, Arms, no_arms, arm}
-use Rattle.kumir_meaning.specs.Operations.{BuiltIn}
-use Rattle.kumir_meaning.specs.Store.{Variable, TheAnswer, Local}
-use Rattle.kumir_meaning.specs.Meaning.{name_of}
-use Rattle.kumir_meaning.specs.Callees.{Placed, Program, Callee, Called, BuiltInCall, RobotCall, PenCall, Unknown, callee, Locals, local_kind, params_of, stmt_names, act_names, block_names, arm_names}
+use Rattle.kumir_names.specs.declared.built_in.BuiltIn.{BuiltIn}
+use Rattle.kumir_names.specs.BuiltIns.{built_in_arity}
+use Rattle.kumir_names.specs.declared.variable.Variable.{Variable}
+use Rattle.kumir_names.specs.Variables.{scalar, table, Names, parameters, variable}
+use Rattle.kumir_names.specs.Callees.{BuiltInCall, Called, Callee, PenCall, RobotCall}
+use Rattle.kumir_meaning.specs.Program.{Placed, Program, callee_in, stmt_names, act_names, block_names, arm_names}
+use Rattle.kumir_meaning.specs.Store.{CellName, TheAnswer, Local}
+use Rattle.kumir_meaning.specs.Expressions.{name_of}
 use Rattle.kumir_compiler.specs.Code.{Site, on_line, behind, answer_of, variables_of, header_site}
 use Rattle.kumir_compiler.specs.Compilable as scoped
-use Rattle.kumir_compiler.proofs.Slotted.{is_among, HasSlot, IsThere, arity, IsValueCall, IsName, IsArgument, IsValue, AreValues, AreArguments, IsPlace, AreLimits, IsTarget, HaveSlots, AreTables, IsInvoked, TakeInputs, AreShown, IsStride, CanAct, CanRun, CanChoose, IsSomeClaim, AreBounds, AreFormals, IsCompilableAlgorithm, AreCompilable}
+use Rattle.kumir_compiler.proofs.Slotted.{is_among, HasSlot, IsThere, IsValueCall, IsName, IsArgument, IsValue, AreValues, AreArguments, IsPlace, AreLimits, IsTarget, HaveSlots, AreTables, IsInvoked, TakeInputs, AreShown, IsStride, CanAct, CanRun, CanChoose, IsSomeClaim, AreBounds, AreFormals, IsCompilableAlgorithm, AreCompilable}
 use Rattle.kumir_compiler.proofs.Variables.{same_itself, among_behind}
 
 -- these names are among the variables
-abbrev pub In : List Variable → Locals → Type 0
+abbrev pub In : List CellName → Names → Type 0
 In names [] = Unit {0}
 In names (l ∷ ls) = (is_among names (Local l.0) ≡ true) × In names ls
 
-in_both : (names : List Variable) (xs ys : Locals) → In names xs → In names ys → In names (xs ++ ys)
+in_both : (names : List CellName) (xs ys : Names) → In names xs → In names ys → In names (xs ++ ys)
 in_both names [] ys i j = j
 in_both names (x ∷ xs) ys i j = (i.0, in_both names xs ys i.1 j)
 
-in_front : (names : List Variable) (xs ys : Locals) → In names (xs ++ ys) → In names xs
+in_front : (names : List CellName) (xs ys : Names) → In names (xs ++ ys) → In names xs
 in_front names [] ys i = tt
 in_front names (x ∷ xs) ys i = (i.0, in_front names xs ys i.1)
 
-in_back : (names : List Variable) (xs ys : Locals) → In names (xs ++ ys) → In names ys
+in_back : (names : List CellName) (xs ys : Names) → In names (xs ++ ys) → In names ys
 in_back names [] ys i = i
 in_back names (x ∷ xs) ys i = in_back names xs ys i.1
 
-local_in : (names : List Variable) (ls : Locals) (x : List ℕ) → In names ls → IsThere (local_kind ls x) → is_among names (Local x) ≡ true
+local_in : (names : List CellName) (ls : Names) (x : List ℕ) → In names ls → IsThere (variable ls x) → is_among names (Local x) ≡ true
 local_in names [] x i there = absurd there
-local_in names (l ∷ ls) x i there = go (bytes_eq l.0 x) refl (local_in names ls x i.1) there
+local_in names (l ∷ ls) x i there = go (pointwise nat_eq x l.0) refl (local_in names ls x i.1) there
   where
-    go : (b : Bool) → bytes_eq l.0 x ≡ b → (IsThere (local_kind ls x) → is_among names (Local x) ≡ true) → IsThere (option_map (λ m. m.1) (cond b (Some l) (find (λ m. bytes_eq m.0 x) ls))) → is_among names (Local x) ≡ true
-    go true e later t1 = subst (λ y. is_among names (Local y) ≡ true) ((bytes_eq-Decides l.0 x).0 e) i.0
+    go : (b : Bool) → pointwise nat_eq x l.0 ≡ b → (IsThere (variable ls x) → is_among names (Local x) ≡ true) → IsThere (cond b (Some l.1) (variable ls x)) → is_among names (Local x) ≡ true
+    go true e later t1 = subst (λ y. is_among names (Local y) ≡ true) (sym ((bytes_eq-Decides x l.0).0 e)) i.0
     go false e later t1 = later t1
 
 -- what is local at a place has a slot, and `знач` in an algorithm with a kind
@@ -51,15 +56,15 @@ record Scope (t : Site) : Type 0 where
 on_it : (t : Site) (line : ℕ) → Scope t → Scope (on_line t line)
 on_it t line sc = record { locals_in = sc.locals_in; answer_in = sc.answer_in }
 
-behind_it : (t : Site) (ls : Locals) → In t.variables ls → Scope t → Scope (behind t ls)
+behind_it : (t : Site) (ls : Names) → In t.variables ls → Scope t → Scope (behind t ls)
 behind_it t ls i sc = record { locals_in = in_both t.variables t.locals ls sc.locals_in i; answer_in = sc.answer_in }
 
-call_in : (c : Callee) (wa va : Placed → Type 0) (wb vb : BuiltIn → Type 0) → ((a : Placed) → wa a → va a) → ((b : BuiltIn) → wb b → vb b) → IsValueCall c wa wb → IsValueCall c va vb
-call_in (Called a) wa va wb vb f g known = (known.0, f a known.1)
-call_in (BuiltInCall b) wa va wb vb f g known = g b known
-call_in (RobotCall c) wa va wb vb f g known = known
-call_in (PenCall c) wa va wb vb f g known = known
-call_in Unknown wa va wb vb f g known = known
+call_in : (c : Option (Callee Placed)) (wa va : Placed → Type 0) (wb vb : BuiltIn → Type 0) → ((a : Placed) → wa a → va a) → ((b : BuiltIn) → wb b → vb b) → IsValueCall c wa wb → IsValueCall c va vb
+call_in (Some (Called a)) wa va wb vb f g known = (known.0, f a known.1)
+call_in (Some (BuiltInCall b)) wa va wb vb f g known = g b known
+call_in (Some (RobotCall c)) wa va wb vb f g known = known
+call_in (Some (PenCall c)) wa va wb vb f g known = known
+call_in None wa va wb vb f g known = known
 
 argument_in : (o : Option Limits) (mode : Mode) (a b c d e f : Type 0) → (a → d) → (b → e) → (c → f) → IsArgument o mode a b c → IsArgument o mode d e f
 argument_in (Some limits) mode a b c d e f i j k known = i known
@@ -67,8 +72,8 @@ argument_in None Arg a b c d e f i j k known = j known
 argument_in None Res a b c d e f i j k known = k known
 argument_in None ArgRes a b c d e f i j k known = k known
 
-name_in : (o : Option Kind) (x : List ℕ) (t : Site) → Scope t → local_kind t.locals x ≡ o → scoped.IsName o x t → IsName o x t
-name_in (Some kind) x t sc e known = local_in t.variables t.locals x sc.locals_in (subst (λ o. IsThere o) (sym e) tt)
+name_in : (o : Option Variable) (x : List ℕ) (t : Site) → Scope t → variable t.locals x ≡ o → scoped.IsName o x t → IsName o x t
+name_in (Some v) x t sc e known = local_in t.variables t.locals x sc.locals_in (subst (λ o. IsThere o) (sym e) tt)
 name_in None x t sc e known = known
 
 mutual
@@ -76,10 +81,10 @@ mutual
   tree_in (Number z) t sc known = tt
   tree_in (Truth b) t sc known = tt
   tree_in Answer t sc known = sc.answer_in known
-  tree_in (Named x) t sc known = name_in (local_kind t.locals x) x t sc refl known
+  tree_in (Named x) t sc known = name_in (variable t.locals x) x t sc refl known
   tree_in (Element x es) t sc known = (local_in t.variables t.locals x sc.locals_in known.0, trees_in es t sc known.1)
   tree_in (Call f es) t sc known =
-      call_in (callee t.program f) (λ a. scoped.AreArguments es a.algorithm.head.params t) (λ a. AreArguments es a.algorithm.head.params t) (λ b. (count es ≡ arity b) × scoped.AreValues es t) (λ b. (count es ≡ arity b) × AreValues es t)
+      call_in (callee_in t.program f) (λ a. scoped.AreArguments es a.algorithm.head.params t) (λ a. AreArguments es a.algorithm.head.params t) (λ b. (count es ≡ built_in_arity b) × scoped.AreValues es t) (λ b. (count es ≡ built_in_arity b) × AreValues es t)
       (λ a w. arguments_in es a.algorithm.head.params t sc w) (λ b w. (w.0, trees_in es t sc w.1)) known
   tree_in (Plus a) t sc known = tree_in a t sc known
   tree_in (Minus a) t sc known = tree_in a t sc known
@@ -117,20 +122,20 @@ target_in ToAnswer t sc known = sc.answer_in known
 target_in (ToScalar x) t sc known = local_in t.variables t.locals x sc.locals_in known
 target_in (ToElement x es) t sc known = (local_in t.variables t.locals x sc.locals_in known.0, trees_in es t sc known.1)
 
-scalars_in : (kind : Kind) (xs : List (List ℕ)) (t : Site) → In t.variables (map (λ x. (x, kind)) xs) → HaveSlots xs t
+scalars_in : (kind : Kind) (xs : List (List ℕ)) (t : Site) → In t.variables (map (scalar kind) xs) → HaveSlots xs t
 scalars_in kind [] t i = tt
 scalars_in kind (x ∷ xs) t i = (i.0, scalars_in kind xs t i.1)
 
-tables_in : (kind : Kind) (xs : List (List ℕ × Limits)) (t : Site) → Scope t → In t.variables (map (λ x. (x.0, kind)) xs) → scoped.AreTables xs t → AreTables xs t
+tables_in : (kind : Kind) (xs : List (List ℕ × Limits)) (t : Site) → Scope t → In t.variables (map (table kind) xs) → scoped.AreTables xs t → AreTables xs t
 tables_in kind [] t sc i known = tt
 tables_in kind (x ∷ xs) t sc i known = (i.0, limits_in x.1 t sc known.0, tables_in kind xs t sc i.1 known.1)
 
-invoked_in : (c : Callee) (es : Trees) (t : Site) → Scope t → scoped.IsInvoked c es t → IsInvoked c es t
-invoked_in (Called a) es t sc known = (known.0, arguments_in es a.algorithm.head.params t sc known.1)
-invoked_in (BuiltInCall b) es t sc known = known
-invoked_in (RobotCall c) es t sc known = known
-invoked_in (PenCall c) es t sc known = (known.0, trees_in es t sc known.1)
-invoked_in Unknown es t sc known = known
+invoked_in : (c : Option (Callee Placed)) (es : Trees) (t : Site) → Scope t → scoped.IsInvoked c es t → IsInvoked c es t
+invoked_in (Some (Called a)) es t sc known = (known.0, arguments_in es a.algorithm.head.params t sc known.1)
+invoked_in (Some (BuiltInCall b)) es t sc known = known
+invoked_in (Some (RobotCall c)) es t sc known = known
+invoked_in (Some (PenCall c)) es t sc known = (known.0, trees_in es t sc known.1)
+invoked_in None es t sc known = known
 
 inputs_in : (xs : List Place) (t : Site) → Scope t → scoped.TakeInputs xs t → TakeInputs xs t
 inputs_in [] t sc known = tt
@@ -151,7 +156,7 @@ mutual
   act_in (Declare (Scalars kind xs)) t sc i known = scalars_in kind xs t i
   act_in (Declare (Tables kind xs)) t sc i known = tables_in kind xs t sc i known
   act_in (Assign x e) t sc i known = (target_in x t sc known.0, tree_in e t sc known.1)
-  act_in (Invoke x es) t sc i known = invoked_in (callee t.program x) es t sc known
+  act_in (Invoke x es) t sc i known = invoked_in (callee_in t.program x) es t sc known
   act_in (Times e b) t sc i known = (tree_in e t sc known.0, block_in b t sc i known.1)
   act_in (While e b) t sc i known = (tree_in e t sc known.0, block_in b t sc i known.1)
   act_in (Count x from to by_step b) t sc i known =
@@ -176,7 +181,7 @@ mutual
       let ia = in_front t.variables (act_names a) (block_names b) i in
       (act_in a (on_line t line) (on_it t line sc) ia known.0, block_in b (behind t (stmt_names (Stands line a))) (behind_it t (act_names a) ia sc) (in_back t.variables (act_names a) (block_names b) i) known.1)
 
-  arms_in : (arms : Arms) (t : Site) → Scope t → In t.variables (arm_names arms) → (rest : Block) → ((ls : Locals) → Scope (record t { locals = ls }) → scoped.CanRun rest (record t { locals = ls }) → CanRun rest (record t { locals = ls }))
+  arms_in : (arms : Arms) (t : Site) → Scope t → In t.variables (arm_names arms) → (rest : Block) → ((ls : Names) → Scope (record t { locals = ls }) → scoped.CanRun rest (record t { locals = ls }) → CanRun rest (record t { locals = ls }))
       → scoped.CanChoose arms t (λ s. scoped.CanRun rest s) → CanChoose arms t (λ s. CanRun rest s)
   arms_in no_arms t sc i rest last known = last t.locals sc known
   arms_in (arm line e b more) t sc i rest last known =
@@ -198,22 +203,22 @@ formals_in : (params : List Formal) (t : Site) → Scope t → scoped.AreFormals
 formals_in [] t sc known = tt
 formals_in (q ∷ params) t sc known = (bounds_in q.bounds t sc known.0, formals_in params t sc known.1)
 
-all_in : (before : List Variable) (ls : Locals) → In (before ++ map (λ l. Local l.0) ls) ls
+all_in : (before : List CellName) (ls : Names) → In (before ++ map (λ l. Local l.0) ls) ls
 all_in before [] = tt
 all_in before (l ∷ ls) =
-    let tail : List Variable = map (λ m. Local m.0) ls in (
+    let tail : List CellName = map (λ m. Local m.0) ls in (
       among_behind before (Local l.0 ∷ tail) (Local l.0) (ap (λ b. cond b true (is_among tail (Local l.0))) (same_itself (Local l.0))),
       subst (λ m. In m ls) (append_assoc before (Local l.0 ∷ []) tail) (all_in (before ++ Local l.0 ∷ []) ls),
     )
 
-answer_there : (o : Option Kind) (more : List Variable) → IsThere o → is_among (answer_of o ++ more) TheAnswer ≡ true
+answer_there : (o : Option Kind) (more : List CellName) → IsThere o → is_among (answer_of o ++ more) TheAnswer ≡ true
 answer_there None more there = absurd there
 answer_there (Some k) more there = refl
 
 algorithm_in : (p : Program) (a : Placed) → scoped.IsCompilableAlgorithm p a → IsCompilableAlgorithm p a
 algorithm_in p a can =
     let names = variables_of a in
-    let ls = params_of a.algorithm.head.params in
+    let ls = parameters a.algorithm.head.params in
     let bs = block_names a.algorithm.body in
     let i : In names (ls ++ bs) = all_in (answer_of a.algorithm.head.gives) (ls ++ bs) in
     let sc : Scope (header_site p a) = record { locals_in = in_front names ls bs i; answer_in = answer_there a.algorithm.head.gives (map (λ l. Local l.0) (ls ++ bs)) } in

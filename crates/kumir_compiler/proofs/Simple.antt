@@ -11,17 +11,21 @@ use Rattle.kumir_values.specs.declared.run_end.RunFault.{RunFault}
 use Rattle.kumir_values.specs.declared.run_end.RunFault.TheVariants.{Bounds, Elements}
 use Rattle.kumir_values.specs.Bounds.{all_ordered, elements}
 use Rattle.kumir_meaning.specs.Runs as state
-use Rattle.kumir_meaning.specs.Runs.{Printed, Sent, Rest, stops, given, tick, does, asks, takes, choose}
-use Rattle.kumir_meaning.specs.Operations.{is_yes, text_of}
-use Rattle.kumir_meaning.specs.Store.{Variable, TheAnswer, Local, Store, Cell, Empty, Has, Spot, AtVariable, AtElement, checked, settled, put, with_cell, with_element, elements_in, without_values, made}
-use Rattle.kumir_meaning.specs.Callees.{Program, Callee, Called, BuiltInCall, RobotCall, PenCall, Unknown, callee, Locals}
-use Rattle.kumir_meaning.specs.Meaning.{Allowed, Enter, Then, numbers_of, steps_in, eval, reply_value, bounds, aims, stores, claims, cleared, makes, establishes, is_wall, pen_command, invokes, takes_for, kind_at, inputs, outputs}
+use Rattle.kumir_names.specs.Variables.{Names}
+use Rattle.kumir_names.specs.Callees.{BuiltInCall, Called, Callee, PenCall, RobotCall}
+use Rattle.kumir_meaning.specs.Program.{Placed, Program, callee_in}
+use Rattle.kumir_meaning.specs.Operators.{is_yes, text_of}
+use Rattle.kumir_meaning.specs.Store.{CellName, TheAnswer, Local, Store, Cell, Empty, Has, Spot, AtVariable, AtElement, checked, settled, put, with_cell, with_element, elements_in, without_values, made}
+use Rattle.kumir_meaning.specs.Runs.{Printed, Sent, Rest, stops, unless_fault, tick, does, asks, takes, choose, Allowed, reply_value, is_wall, pen_command}
+use Rattle.kumir_meaning.specs.Expressions.{Enter, Then, numbers_of, steps_in, eval, bounds}
+use Rattle.kumir_meaning.specs.Statements.{aims, stores, claims, cleared, makes, establishes, invokes, takes_for, kind_at, inputs, outputs}
 use Rattle.stack_code.specs.declared.instruction.CodeLine.{CodeLine}
 use Rattle.stack_code.specs.declared.instruction.Instruction.TheVariants as instruction
 use Rattle.stack_code.specs.declared.unit.CodeUnit.{CodeUnit}
 use Rattle.stack_code.specs.CodeState.{State, Frame, Slots, Plain, with_slot, numbers, paired, next, next_with}
 use Rattle.stack_code.specs.Instructions as code
-use Rattle.stack_code.specs.Instructions.{Event, Go, Halt, Does, Asks, After, On, Over, if_fine, unit_at, step, is_test, numbers_asked}
+use Rattle.performer_kit.specs.Commands.{pen_arity}
+use Rattle.stack_code.specs.Instructions.{Event, Go, Halt, Does, Asks, After, On, Over, if_fine, unit_at, step}
 use Rattle.kumir_compiler.specs.Code.{Code, Site, on, slot, aim_code, store_code, claim_code, limits_code, tables_code, declares_code, invoke_code, place_kind, kind_or_whole, inputs_code, outputs_code, tree_code, trees_code, arguments_code, call_places}
 use Rattle.kumir_compiler.proofs.Slotted.{is_among, IsThere, IsMissing, IsValue, AreLimits, IsTarget, HaveSlots, AreTables, IsDeclared, IsInvoked, TakeInputs, AreShown}
 use Rattle.kumir_compiler.proofs.Stands.{Stands, parts}
@@ -49,7 +53,7 @@ no_onto : (vs stack : List Value) → length vs ≡ 0 → onto vs stack ≡ stac
 no_onto [] stack e = refl
 no_onto (v ∷ vs) stack e = absurd (omega arith)
 
-module _ (al : Allowed) (p : Program) (cs : List CodeUnit) (u : ℕ) (fr : List Frame) (enter : Enter) (names : List Variable) (answer : Option Kind) (first : ℕ) (row : ℕ) (locals : Locals) (N d : ℕ) (h : Slots) (ok : EnterOk al p cs u fr enter N) where
+module _ (al : Allowed) (p : Program) (cs : List CodeUnit) (u : ℕ) (fr : List Frame) (enter : Enter) (names : List CellName) (answer : Option Kind) (first : ℕ) (row : ℕ) (locals : Names) (N d : ℕ) (h : Slots) (ok : EnterOk al p cs u fr enter N) where
   abbrev T : Site
   T = site al p cs u fr enter names answer first row locals
 
@@ -68,13 +72,13 @@ module _ (al : Allowed) (p : Program) (cs : List CodeUnit) (u : ℕ) (fr : List 
   aims_ok (ToElement x es) known pc end s slots stack k has same go =
       trees_ok al p cs u fr enter names answer first es row locals N d h ok known.1 pc end s slots stack (λ vs. k (AtElement x (numbers_of vs))) has same (λ vs s1 slots1 len same1. go vs s1 slots1 len same1)
 
-  stores_variable : (x : Variable) (v : Value) (pc : ℕ) (s : Store) (slots : Slots) (stack : List Value) (k : Then) → is_among names x ≡ true → slice_get Lines pc ≡ Some (on T (instruction.Store (slot T x)) pc) → Same names d h s slots → GoesOn al cs u fr T N d h (pc + 1) stack k
+  stores_variable : (x : CellName) (v : Value) (pc : ℕ) (s : Store) (slots : Slots) (stack : List Value) (k : Then) → is_among names x ≡ true → slice_get Lines pc ≡ Some (on T (instruction.Store (slot T x)) pc) → Same names d h s slots → GoesOn al cs u fr T N d h (pc + 1) stack k
       → Reaches al cs N (here u fr pc (v ∷ stack) slots s.used) (k (with_cell s x (Has v)))
   stores_variable x v pc s slots stack k known has same go =
       on_go al cs N _ _ _ (line al cs u fr T N d h pc (v ∷ stack) slots s _ has) (go _ _ (stored names d h s slots x (Has v) (Plain (Has v)) known refl same))
 
   stores_element : (x : List ℕ) (n : ℕ) (vs : List Value) (v : Value) (pc : ℕ) (s : Store) (slots : Slots) (stack : List Value) (k : Then) → is_among names (Local x) ≡ true → length vs ≡ n → slice_get Lines pc ≡ Some (on T (instruction.PutElem (slot T (Local x)) n) pc) → Same names d h s slots → GoesOn al cs u fr T N d h (pc + 1) stack k
-      → (r : Result (List ℤ) RunFault) → checked (s.cells (Local x)) (numbers_of vs) ≡ r → Reaches al cs N (here u fr pc (v ∷ onto vs stack) slots s.used) (given (settled (AtElement x (numbers_of vs)) s) row (λ at. k (put at (Some v) s)))
+      → (r : Result (List ℤ) RunFault) → checked (s.cells (Local x)) (numbers_of vs) ≡ r → Reaches al cs N (here u fr pc (v ∷ onto vs stack) slots s.used) (unless_fault (settled (AtElement x (numbers_of vs)) s) row (λ at. k (put at (Some v) s)))
   stores_element x n vs v pc s slots stack k known len has same go r e = by_result r e
     where
       now : State
@@ -91,11 +95,11 @@ module _ (al : Allowed) (p : Program) (cs : List CodeUnit) (u : ℕ) (fr : List 
           ∙ ap (λ l. if_fine (checked (s.cells (Local x)) (numbers_of vs)) row (λ at. puts l (s.cells (Local x)) at)) (drop_onto vs stack n len)
           ∙ ap (λ w. if_fine w row (λ at. puts stack (s.cells (Local x)) at)) e
 
-      by_result : (r : Result (List ℤ) RunFault) → checked (s.cells (Local x)) (numbers_of vs) ≡ r → Reaches al cs N now (given (settled (AtElement x (numbers_of vs)) s) row (λ at. k (put at (Some v) s)))
+      by_result : (r : Result (List ℤ) RunFault) → checked (s.cells (Local x)) (numbers_of vs) ≡ r → Reaches al cs N now (unless_fault (settled (AtElement x (numbers_of vs)) s) row (λ at. k (put at (Some v) s)))
       by_result (Err fault) e =
-          subst (λ w. Reaches al cs N now (given w row (λ at. k (put at (Some v) s)))) (sym (settled_err x (numbers_of vs) s fault e)) (on_halt al cs N now (state.Fault row fault) (is (Err fault) e))
+          subst (λ w. Reaches al cs N now (unless_fault w row (λ at. k (put at (Some v) s)))) (sym (settled_err x (numbers_of vs) s fault e)) (on_halt al cs N now (state.Fault row fault) (is (Err fault) e))
       by_result (Ok at) e =
-          subst (λ w. Reaches al cs N now (given w row (λ at. k (put at (Some v) s)))) (sym (settled_ok x (numbers_of vs) at s e))
+          subst (λ w. Reaches al cs N now (unless_fault w row (λ at. k (put at (Some v) s)))) (sym (settled_ok x (numbers_of vs) at s e))
           (on_go al cs N now _ _ (is (Ok at) e)
           (go _ _ (stored names d h s slots (Local x) (with_element (s.cells (Local x)) at (Some v)) (Plain (with_element (s.cells (Local x)) at (Some v))) known refl same)))
 
@@ -184,7 +188,7 @@ module _ (al : Allowed) (p : Program) (cs : List CodeUnit) (u : ℕ) (fr : List 
       (λ vs s3 slots3 len same3. go (low ∷ high ∷ vs) s3 slots3 (omega arith) same3)))
 
   -- a table made anew, in its two checks
-  made_ok : (ordered room : Bool) (now then : State) (made : Store) (k : Store → Rest) → step al cs now ≡ cond ordered (cond room (Go then) (Halt (state.Fault row Elements))) (Halt (state.Fault row Bounds)) → Reaches al cs N then (k made) → Reaches al cs N now (given (cond ordered (cond room (Ok made) (Err Elements)) (Err Bounds)) row k)
+  made_ok : (ordered room : Bool) (now then : State) (made : Store) (k : Store → Rest) → step al cs now ≡ cond ordered (cond room (Go then) (Halt (state.Fault row Elements))) (Halt (state.Fault row Bounds)) → Reaches al cs N then (k made) → Reaches al cs N now (unless_fault (cond ordered (cond room (Ok made) (Err Elements)) (Err Bounds)) row k)
   made_ok true true now then made k e r = on_go al cs N now then (k made) e r
   made_ok true false now then made k e r = on_halt al cs N now (state.Fault row Elements) e
   made_ok false room now then made k e r = on_halt al cs N now (state.Fault row Bounds) e
@@ -199,8 +203,8 @@ module _ (al : Allowed) (p : Program) (cs : List CodeUnit) (u : ℕ) (fr : List 
       let count1 = s1.used - elements_in (s1.cells (Local x.0)) + elements bs in
       made_ok (all_ordered bs) (nat_le count1 al.room) _ (record { unit = u; pc = w.0 + 1; stack = stack; slots = with_slot slots1 (slot T (Local x.0)) (Plain (without_values kind bs)); used = count1; frames = fr }) (record { cells = (with_cell s1 (Local x.0) (without_values kind bs)).cells; used = count1 }) (λ s2. makes kind xs (spot_of al p cs u fr enter names answer first row locals) k s2)
       (line al cs u fr T N d h w.0 (onto vs stack) slots1 s1 _ w.2.0
-      ∙ ap (λ l. code.makes al.room (slot T (Local x.0)) kind (paired l) row (here u fr w.0 (onto vs stack) slots1 s1.used) (drop (2 * length x.1) (onto vs stack))) (numbers_onto vs stack (2 * length x.1) len)
-      ∙ ap (λ l. code.makes al.room (slot T (Local x.0)) kind bs row (here u fr w.0 (onto vs stack) slots1 s1.used) l) (drop_onto vs stack (2 * length x.1) len)
+      ∙ ap (λ l. code.makes_table al.room (slot T (Local x.0)) kind (paired l) row (here u fr w.0 (onto vs stack) slots1 s1.used) (drop (2 * length x.1) (onto vs stack))) (numbers_onto vs stack (2 * length x.1) len)
+      ∙ ap (λ l. code.makes_table al.room (slot T (Local x.0)) kind bs row (here u fr w.0 (onto vs stack) slots1 s1.used) l) (drop_onto vs stack (2 * length x.1) len)
       ∙ ap (λ c. cond (all_ordered bs) (cond (nat_le (s1.used - elements_in c + elements bs) al.room) (Go (record { unit = u; pc = w.0 + 1; stack = stack; slots = with_slot slots1 (slot T (Local x.0)) (Plain (without_values kind bs)); used = s1.used - elements_in c + elements bs; frames = fr })) (Halt (state.Fault row Elements))) (Halt (state.Fault row Bounds))) (same1.vars (Local x.0) known.0))
       (makes_ok kind xs known.2 (w.0 + 1) end _ _ stack k w.2.1
       (counted names d h _ _ count1 (stored names d h s1 slots1 (Local x.0) (without_values kind bs) (Plain (without_values kind bs)) known.0 refl same1)) go))
@@ -218,27 +222,27 @@ module _ (al : Allowed) (p : Program) (cs : List CodeUnit) (u : ℕ) (fr : List 
   walls true now s k r = after_over al cs N (state.Wall row)
   walls false now s k r = after_on al cs N now (k s) r
 
-  pub invokes_ok : (c : Callee) (f : List ℕ) → callee p f ≡ c → (es : Trees) → IsInvoked c es T → Serves (invoke_code c f es T d) (λ k. invokes c es (spot_of al p cs u fr enter names answer first row locals) k)
-  invokes_ok (Called a) f e es known pc end s slots stack k has same go =
+  pub invokes_ok : (c : Option (Callee Placed)) (f : List ℕ) → callee_in p f ≡ c → (es : Trees) → IsInvoked c es T → Serves (invoke_code c f es T d) (λ k. invokes c es (spot_of al p cs u fr enter names answer first row locals) k)
+  invokes_ok (Some (Called a)) f e es known pc end s slots stack k has same go =
       let w = parts Lines pc (arguments_code es a.algorithm.head.params T d) _ end has in
       arguments_ok al p cs u fr enter names answer first es a.algorithm.head.params row locals N d h ok known.1 pc w.0 s slots stack (λ passed. steps_in a passed (spot_of al p cs u fr enter names answer first row locals) (λ v. k)) w.1 same
       (λ passed h1 s1 slots1 agree same1 match. enters_ok al cs u fr T p enter N (d + all_keep es a.algorithm.head.params) h1 f a (call_places es a.algorithm.head.params T d) passed refl ok e match w.0 end s1 slots1 stack (λ v. k) w.2 same1
       (λ v s2 slots2 same2. subst (λ l. Reaches al cs N (here u fr end l slots2 s2.used) (k s2)) (sym (missing_stack a.algorithm.head.gives v stack known.0))
       (go s2 slots2 (narrowed names d (d + all_keep es a.algorithm.head.params) h h1 s2 slots2 (omega arith) agree same2))))
-  invokes_ok (BuiltInCall b) f e es known pc end s slots stack k has same go = absurd known
-  invokes_ok (RobotCall c) f e es known pc end s slots stack k has same go =
+  invokes_ok (Some (BuiltInCall b)) f e es known pc end s slots stack k has same go = absurd known
+  invokes_ok (Some (RobotCall c)) f e es known pc end s slots stack k has same go =
       on_step al cs N _ _ (λ s1. asks (Robot c) (λ r. choose (is_wall r) (λ s2. stops (state.Wall row)) k) s1) s (line al cs u fr T N d h pc stack slots s _ has.0)
       (on_asks al cs N _ (Robot c) _ (λ r. choose (is_wall r) (λ s2. stops (state.Wall row)) k) s
       (line al cs u fr T N d h (pc + 1) stack slots s _ has.1.0 ∙ ap (λ b. Asks (Robot c) (λ r. cond b (On (next (here u fr (pc + 1) stack slots s.used) (reply_value r ∷ stack))) (cond (is_wall r) (Over (state.Wall row)) (On (next (here u fr (pc + 1) stack slots s.used) stack))))) known)
       (λ r. walls (is_wall r) _ s k (moved al cs u fr N _ _ stack slots s.used (k s) has.1.1 (go s slots same))))
-  invokes_ok (PenCall c) f e es known pc end s slots stack k has same go =
+  invokes_ok (Some (PenCall c)) f e es known pc end s slots stack k has same go =
       let w = parts Lines pc (trees_code es T d) _ end has in
       trees_ok al p cs u fr enter names answer first es row locals N d h ok known.1 pc w.0 s slots stack _ w.1 same
       (λ vs s1 slots1 len same1.
       on_step al cs N _ _ (λ s2. does (Sent (Pen (pen_command c (numbers_of vs)))) k s2) s1 (line al cs u fr T N d h w.0 (onto vs stack) slots1 s1 _ w.2.0)
       (on_does al cs N _ _ (Sent (Pen (pen_command c (numbers_of vs)))) k s1
       (line al cs u fr T N d h (w.0 + 1) (onto vs stack) slots1 s1 _ w.2.1.0
-      ∙ ap (λ l. Does (Sent (Pen (pen_command c l))) (next (here u fr (w.0 + 1) (onto vs stack) slots1 s1.used) (drop (numbers_asked c) (onto vs stack)))) (numbers_onto vs stack (numbers_asked c) (len ∙ known.0))
-      ∙ ap (λ l. Does (Sent (Pen (pen_command c (numbers_of vs)))) (next (here u fr (w.0 + 1) (onto vs stack) slots1 s1.used) l)) (drop_onto vs stack (numbers_asked c) (len ∙ known.0)))
+      ∙ ap (λ l. Does (Sent (Pen (pen_command c l))) (next (here u fr (w.0 + 1) (onto vs stack) slots1 s1.used) (drop (pen_arity c) (onto vs stack)))) (numbers_onto vs stack (pen_arity c) (len ∙ known.0))
+      ∙ ap (λ l. Does (Sent (Pen (pen_command c (numbers_of vs)))) (next (here u fr (w.0 + 1) (onto vs stack) slots1 s1.used) l)) (drop_onto vs stack (pen_arity c) (len ∙ known.0)))
       (moved al cs u fr N _ _ stack slots1 s1.used (k s1) w.2.1.1 (go s1 slots1 same1))))
-  invokes_ok Unknown f e es known pc end s slots stack k has same go = absurd known
+  invokes_ok None f e es known pc end s slots stack k has same go = absurd known

@@ -1,37 +1,40 @@
 -- What the proofs need of a program: each variable that is used has a slot.
 use Rattle.std.specs.Prelude.{◌≡◌, ℕ, Bool, true, false, List, [], ◌∷◌, Option, Some, None, if◌then◌else◌}
-use Rattle.kumir_tree.specs.declared.kind.Kind.{Kind}
 use Rattle.kumir_tree.specs.Tree.{Tree, Number, Truth, Answer, Named, Element, Call, Plus, Minus, Not, Binary, Trees, no_trees, ◌then◌, count}
 use Rattle.kumir_tree.specs.Part.{Limits, Place, ToAnswer, ToScalar, ToElement, Shown, ShowValue, ShowText, ShowLine, Declares, Scalars, Tables, Formal}
 use Rattle.kumir_tree.specs.Program as tree
 use Rattle.kumir_tree.specs.Program.{Stmt, Stands, Declare, Assign, Invoke, Times, While, Count, Forever, Until, Choose, Select, Assert, Input, Output, Leave, Quit, Block, done, ◌next◌, Arms, no_arms, arm}
-use Rattle.kumir_meaning.specs.Store.{Variable, TheAnswer, Local, same_variable}
-use Rattle.kumir_meaning.specs.Meaning.{name_of}
-use Rattle.kumir_meaning.specs.Callees.{Placed, Program, Callee, Called, BuiltInCall, RobotCall, PenCall, Unknown, callee, local_kind, stmt_names, block_names}
-use Rattle.stack_code.specs.Instructions.{is_test, numbers_asked}
-pub use Rattle.kumir_compiler.specs.Compilable.{IsThere, IsMissing, arity, IsValueCall, IsArgument}
+use Rattle.kumir_names.specs.declared.variable.Variable.{Variable}
+use Rattle.kumir_names.specs.BuiltIns.{built_in_arity}
+use Rattle.kumir_names.specs.Variables.{variable}
+use Rattle.kumir_names.specs.Callees.{BuiltInCall, Called, Callee, PenCall, RobotCall}
+use Rattle.kumir_meaning.specs.Program.{Placed, Program, callee_in, stmt_names, block_names}
+use Rattle.kumir_meaning.specs.Store.{CellName, TheAnswer, Local, same_cell_name}
+use Rattle.kumir_meaning.specs.Expressions.{name_of}
+use Rattle.performer_kit.specs.Commands.{is_test, pen_arity}
+pub use Rattle.kumir_compiler.specs.Compilable.{IsThere, IsMissing, IsValueCall, IsArgument}
 use Rattle.kumir_compiler.specs.Code.{Site, on_line, behind, place_kind, header_site}
 
-abbrev pub is_among : List Variable → Variable → Bool
+abbrev pub is_among : List CellName → CellName → Bool
 is_among [] x = false
-is_among (y ∷ variables) x = if same_variable y x then true else is_among variables x
+is_among (y ∷ variables) x = if same_cell_name y x then true else is_among variables x
 
-abbrev pub HasSlot : Site → Variable → Type 0
+abbrev pub HasSlot : Site → CellName → Type 0
 HasSlot t x = is_among t.variables x ≡ true
 
-abbrev pub IsName : Option Kind → List ℕ → Site → Type 0
-IsName (Some kind) x t = HasSlot t (Local x)
-IsName None x t = IsValueCall (callee t.program x) (λ a. Unit {0}) (λ b. ⊥)
+abbrev pub IsName : Option Variable → List ℕ → Site → Type 0
+IsName (Some v) x t = HasSlot t (Local x)
+IsName None x t = IsValueCall (callee_in t.program x) (λ a. Unit {0}) (λ b. ⊥)
 
 abbrev mutual
   pub IsValue : Tree → Site → Type 0
   IsValue (Number z) t = Unit {0}
   IsValue (Truth b) t = Unit {0}
   IsValue Answer t = HasSlot t TheAnswer
-  IsValue (Named x) t = IsName (local_kind t.locals x) x t
+  IsValue (Named x) t = IsName (variable t.locals x) x t
   IsValue (Element x es) t = HasSlot t (Local x) × AreValues es t
   IsValue (Call f es) t =
-      IsValueCall (callee t.program f) (λ a. AreArguments es a.algorithm.head.params t) (λ b. (count es ≡ arity b) × AreValues es t)
+      IsValueCall (callee_in t.program f) (λ a. AreArguments es a.algorithm.head.params t) (λ b. (count es ≡ built_in_arity b) × AreValues es t)
   IsValue (Plus a) t = IsValue a t
   IsValue (Minus a) t = IsValue a t
   IsValue (Not a) t = IsValue a t
@@ -83,12 +86,12 @@ IsDeclared (Scalars kind names) t = HaveSlots names t
 IsDeclared (Tables kind tables) t = AreTables tables t
 
 -- what is called as a statement: an algorithm without a kind, or a command that is no test
-abbrev pub IsInvoked : Callee → Trees → Site → Type 0
-IsInvoked (Called a) es t = IsMissing a.algorithm.head.gives × AreArguments es a.algorithm.head.params t
-IsInvoked (BuiltInCall b) es t = ⊥
-IsInvoked (RobotCall c) es t = is_test c ≡ false
-IsInvoked (PenCall c) es t = (count es ≡ numbers_asked c) × AreValues es t
-IsInvoked Unknown es t = ⊥
+abbrev pub IsInvoked : Option (Callee Placed) → Trees → Site → Type 0
+IsInvoked (Some (Called a)) es t = IsMissing a.algorithm.head.gives × AreArguments es a.algorithm.head.params t
+IsInvoked (Some (BuiltInCall b)) es t = ⊥
+IsInvoked (Some (RobotCall c)) es t = is_test c ≡ false
+IsInvoked (Some (PenCall c)) es t = (count es ≡ pen_arity c) × AreValues es t
+IsInvoked None es t = ⊥
 
 -- inputs go to local names and their elements
 abbrev pub TakeInputs : List Place → Site → Type 0
@@ -109,7 +112,7 @@ abbrev mutual
   pub CanAct : tree.Act → Site → Type 0
   CanAct (Declare x) t = IsDeclared x t
   CanAct (Assign x e) t = IsTarget x t × IsValue e t
-  CanAct (Invoke x es) t = IsInvoked (callee t.program x) es t
+  CanAct (Invoke x es) t = IsInvoked (callee_in t.program x) es t
   CanAct (Times e b) t = IsValue e t × CanRun b t
   CanAct (While e b) t = IsValue e t × CanRun b t
   CanAct (Count x from to step b) t = HasSlot t (Local x) × IsValue from t × IsValue to t × IsStride step t × CanRun b t

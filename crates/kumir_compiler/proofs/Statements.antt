@@ -10,11 +10,13 @@ use Rattle.kumir_values.specs.declared.value.Value.{Value}
 use Rattle.kumir_values.specs.declared.value.Value.TheVariants.{Whole}
 use Rattle.kumir_values.specs.declared.run_end.RunFault.TheVariants.{StepZero}
 use Rattle.kumir_meaning.specs.Runs as state
-use Rattle.kumir_meaning.specs.Runs.{Rest, stops, tick, choose}
-use Rattle.kumir_meaning.specs.Operations.{number_of, turns_of}
-use Rattle.kumir_meaning.specs.Store.{Variable, Store}
-use Rattle.kumir_meaning.specs.Callees.{Program, callee, Locals, stmt_names, block_names}
-use Rattle.kumir_meaning.specs.Meaning.{Allowed, Enter, Here, Then, eval, stride, carries_out, runs, selects}
+use Rattle.kumir_names.specs.Variables.{Names}
+use Rattle.kumir_meaning.specs.Program.{Program, callee_in, stmt_names, block_names}
+use Rattle.kumir_meaning.specs.Operators.{number_of, turns_of}
+use Rattle.kumir_meaning.specs.Store.{CellName, Store}
+use Rattle.kumir_meaning.specs.Runs.{Rest, stops, tick, choose, Allowed}
+use Rattle.kumir_meaning.specs.Expressions.{Enter, Here, Then, eval}
+use Rattle.kumir_meaning.specs.Statements.{stride, carries_out, runs, selects}
 use Rattle.stack_code.specs.declared.instruction.CodeLine.{CodeLine}
 use Rattle.stack_code.specs.declared.instruction.Instruction.TheVariants as instruction
 use Rattle.stack_code.specs.declared.unit.CodeUnit.{CodeUnit}
@@ -31,14 +33,14 @@ use Rattle.kumir_compiler.proofs.Expressions.{site, spot_of, tree_ok}
 use Rattle.kumir_compiler.proofs.Simple.{assigns_ok, inputs_ok, outputs_ok, claims_ok, establishes_ok, invokes_ok}
 use Rattle.kumir_compiler.proofs.Loops.{Acts, while_ok, forever_ok, until_ok, turns_ok, counts_ok, choice_ok}
 
-module _ (al : Allowed) (p : Program) (cs : List CodeUnit) (u : ℕ) (fr : List Frame) (enter : Enter) (names : List Variable) (answer : Option Kind) (first : ℕ) where
+module _ (al : Allowed) (p : Program) (cs : List CodeUnit) (u : ℕ) (fr : List Frame) (enter : Enter) (names : List CellName) (answer : Option Kind) (first : ℕ) where
   abbrev Lines : List CodeLine
   Lines = (unit_at cs u).body
 
-  abbrev At : ℕ → Locals → Here
+  abbrev At : ℕ → Names → Here
   At row locals = spot_of al p cs u fr enter names answer first row locals
 
-  abbrev T : ℕ → Locals → Site
+  abbrev T : ℕ → Names → Site
   T row locals = site al p cs u fr enter names answer first row locals
 
   abbrev Ok : ℕ → Type 0
@@ -48,7 +50,7 @@ module _ (al : Allowed) (p : Program) (cs : List CodeUnit) (u : ℕ) (fr : List 
   less_ok N M le ok = enter_fewer al p cs u fr enter N M le ok
 
   -- the step of `для`, and the begin of its turns
-  stride_ok : (o : Option Tree) (row : ℕ) (locals : Locals) (N d : ℕ) (h : Slots) → Ok N → IsStride o (T row locals) → (pc mid : ℕ) (s : Store) (slots : Slots) (v w : Value) (stack : List Value) (k : ℤ → Then)
+  stride_ok : (o : Option Tree) (row : ℕ) (locals : Names) (N d : ℕ) (h : Slots) → Ok N → IsStride o (T row locals) → (pc mid : ℕ) (s : Store) (slots : Slots) (v w : Value) (stack : List Value) (k : ℤ → Then)
       → Stands Lines pc (stride_code o (T row locals) d) mid → slice_get Lines mid ≡ Some (on (T row locals) (instruction.Turns (hidden (T row locals) d)) mid) → Same names d h s slots
       → ((z : ℤ) (s1 : Store) (slots1 : Slots) → Same names (d + 1) (with_slot h d (Numbers (number_of v) (number_of w) z)) s1 slots1 → Reaches al cs N (here u fr (mid + 1) stack slots1 s1.used) (k z s1))
       → Reaches al cs N (here u fr pc (w ∷ v ∷ stack) slots s.used) (stride o (At row locals) k s)
@@ -68,13 +70,13 @@ module _ (al : Allowed) (p : Program) (cs : List CodeUnit) (u : ℕ) (fr : List 
       begins false x s1 slots1 then e r = on_go al cs N _ then (k (number_of x) s1) e r
 
   mutual
-    pub act_ok : (a : tree.Act) (row : ℕ) (locals : Locals) (n N d after : ℕ) (h : Slots) → N ≤ n → Ok N → CanAct a (T row locals) → Acts al cs u fr (T row locals) N d h (act_code a (T row locals) d after) after (λ out k s. carries_out a (At row locals) n out k s)
+    pub act_ok : (a : tree.Act) (row : ℕ) (locals : Names) (n N d after : ℕ) (h : Slots) → N ≤ n → Ok N → CanAct a (T row locals) → Acts al cs u fr (T row locals) N d h (act_code a (T row locals) d after) after (λ out k s. carries_out a (At row locals) n out k s)
     act_ok (Declare x) row locals n N d after h le ok known pc end away s slots stack out k has e same leave go =
         establishes_ok al p cs u fr enter names answer first row locals N d h ok x known pc end s slots stack k has same go
     act_ok (Assign x y) row locals n N d after h le ok known pc end away s slots stack out k has e same leave go =
         assigns_ok al p cs u fr enter names answer first row locals N d h ok x y known.0 known.1 pc end s slots stack k has same go
     act_ok (Invoke x es) row locals n N d after h le ok known pc end away s slots stack out k has e same leave go =
-        invokes_ok al p cs u fr enter names answer first row locals N d h ok (callee p x) x refl es known pc end s slots stack k has same go
+        invokes_ok al p cs u fr enter names answer first row locals N d h ok (callee_in p x) x refl es known pc end s slots stack k has same go
     act_ok (Times y b) row locals n N d after h le ok known pc end away s slots stack out k has e same leave go =
         let w = parts Lines pc (tree_code y (T row locals) d) _ end has in
         tree_ok al p cs u fr enter names answer first y row locals N d h ok known.0 pc w.0 s slots stack _ w.1 same
@@ -132,7 +134,7 @@ module _ (al : Allowed) (p : Program) (cs : List CodeUnit) (u : ℕ) (fr : List 
     act_ok Quit row locals n N d after h le ok known pc end away s slots stack out k has e same leave go =
         on_halt al cs N _ state.Quit (line al cs u fr (T row locals) N d h pc stack slots s _ has.0)
 
-    pub block_ok : (b : Block) (row : ℕ) (locals : Locals) (n N d after : ℕ) (h : Slots) → N ≤ n → Ok N → CanRun b (T row locals) → Acts al cs u fr (T row locals) N d h (block_code b (T row locals) d after) after (λ out k s. runs b (At row locals) n out k s)
+    pub block_ok : (b : Block) (row : ℕ) (locals : Names) (n N d after : ℕ) (h : Slots) → N ≤ n → Ok N → CanRun b (T row locals) → Acts al cs u fr (T row locals) N d h (block_code b (T row locals) d after) after (λ out k s. runs b (At row locals) n out k s)
     block_ok done row locals n N d after h le ok known pc end away s slots stack out k has e same leave go = moved al cs u fr N pc end stack slots s.used (k s) has (go s slots same)
     block_ok (StandsAt below a next b) row locals n N d after h le ok known pc end away s slots stack out k has e same leave go =
         let cb = block_code b (T row (locals ++ stmt_names (StandsAt below a))) d after in
@@ -142,10 +144,10 @@ module _ (al : Allowed) (p : Program) (cs : List CodeUnit) (u : ℕ) (fr : List 
         (act_ok a (first + below) locals n N d (length cb + after) h le ok known.0 (pc + 1) w.0 away s slots stack out (λ s2. runs b (At row (locals ++ stmt_names (StandsAt below a))) n out k s2) w.1.1 (omega arith) same leave
         (λ s2 slots2 same2. block_ok b row (locals ++ stmt_names (StandsAt below a)) n N d after h le ok known.1 w.0 end away s2 slots2 stack out k w.2 e same2 leave go))
 
-    pub arms_ok : (arms : Arms) (row : ℕ) (locals : Locals) (n N d after : ℕ) (h : Slots) → N ≤ n → Ok N → (rest : Block) → CanChoose arms (T row locals) (λ t. CanRun rest t)
+    pub arms_ok : (arms : Arms) (row : ℕ) (locals : Names) (n N d after : ℕ) (h : Slots) → N ≤ n → Ok N → (rest : Block) → CanChoose arms (T row locals) (λ t. CanRun rest t)
         → (pc end away : ℕ) (s : Store) (slots : Slots) (stack : List Value) (out k : Then) → Stands Lines pc (arms_code arms (T row locals) d after (λ t. block_code rest t d after)) end → away ≡ end + after → Same names d h s slots
         → GoesOn al cs u fr (T row locals) N d h away stack out → GoesOn al cs u fr (T row locals) N d h end stack k
-        → ((locals1 : Locals) → CanRun rest (T row locals1) → (at : ℕ) (s1 : Store) (slots1 : Slots) → Stands Lines at (block_code rest (T row locals1) d after) end → Same names d h s1 slots1 → Reaches al cs N (here u fr at stack slots1 s1.used) (runs rest (At row locals1) n out k s1))
+        → ((locals1 : Names) → CanRun rest (T row locals1) → (at : ℕ) (s1 : Store) (slots1 : Slots) → Stands Lines at (block_code rest (T row locals1) d after) end → Same names d h s1 slots1 → Reaches al cs N (here u fr at stack slots1 s1.used) (runs rest (At row locals1) n out k s1))
         → Reaches al cs N (here u fr pc stack slots s.used) (selects arms (At row locals) n out k (λ h1 s1. runs rest h1 n out k s1) s)
     arms_ok no_arms row locals n N d after h le ok rest known pc end away s slots stack out k has e same leave go last_ok = last_ok locals known pc s slots has same
     arms_ok (arm below y b more) row locals n N d after h le ok rest known pc end away s slots stack out k has e same leave go last_ok =

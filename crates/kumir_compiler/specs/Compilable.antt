@@ -1,17 +1,20 @@
 -- Which programs the law of the code speaks of: what is used as a variable is a local name, a call stands where its value is taken or where none is given,
 -- and built-ins and commands have as many numbers as they take. No types are looked at.
 use Rattle.std.specs.Prelude.{◌≡◌, ℕ, true, false, List, [], ◌∷◌, Option, Some, None}
-use Rattle.kumir_tree.specs.declared.kind.Kind.{Kind}
 use Rattle.kumir_tree.specs.declared.kind.Mode.{Mode}
 use Rattle.kumir_tree.specs.declared.kind.Mode.TheVariants.{Arg, Res, ArgRes}
 use Rattle.kumir_tree.specs.Tree.{Tree, Number, Truth, Answer, Named, Element, Call, Plus, Minus, Not, Binary, Trees, no_trees, ◌then◌, count}
 use Rattle.kumir_tree.specs.Part.{Limits, Place, ToAnswer, ToScalar, ToElement, Shown, ShowValue, ShowText, ShowLine, Declares, Scalars, Tables, Formal}
 use Rattle.kumir_tree.specs.Program as tree
 use Rattle.kumir_tree.specs.Program.{Stmt, Stands, Declare, Assign, Invoke, Times, While, Count, Forever, Until, Choose, Select, Assert, Input, Output, Leave, Quit, Block, done, ◌next◌, Arms, no_arms, arm}
-use Rattle.kumir_meaning.specs.Operations.{BuiltIn, Div, Mod, Abs, Min, Max}
-use Rattle.kumir_meaning.specs.Meaning.{name_of}
-use Rattle.kumir_meaning.specs.Callees.{Placed, Program, Callee, Called, BuiltInCall, RobotCall, PenCall, Unknown, callee, local_kind, stmt_names, block_names}
-use Rattle.stack_code.specs.Instructions.{is_test, numbers_asked}
+use Rattle.kumir_names.specs.declared.built_in.BuiltIn.{BuiltIn}
+use Rattle.kumir_names.specs.BuiltIns.{built_in_arity}
+use Rattle.kumir_names.specs.declared.variable.Variable.{Variable}
+use Rattle.kumir_names.specs.Variables.{variable}
+use Rattle.kumir_names.specs.Callees.{BuiltInCall, Called, Callee, PenCall, RobotCall}
+use Rattle.kumir_meaning.specs.Program.{Placed, Program, callee_in, stmt_names, block_names}
+use Rattle.kumir_meaning.specs.Expressions.{name_of}
+use Rattle.performer_kit.specs.Commands.{is_test, pen_arity}
 use Rattle.kumir_compiler.specs.Code.{Site, on_line, behind, place_kind, header_site}
 
 abbrev pub IsThere : {T : Type 0} → Option T → Type 0
@@ -20,30 +23,23 @@ IsThere (Some x) = Unit {0}
 
 -- a name is a local one there
 abbrev pub IsLocal : Site → List ℕ → Type 0
-IsLocal t x = IsThere (local_kind t.locals x)
+IsLocal t x = IsThere (variable t.locals x)
 
 abbrev pub IsMissing : {T : Type 0} → Option T → Type 0
 IsMissing None = Unit {0}
 IsMissing (Some x) = ⊥
 
-abbrev pub arity : BuiltIn → ℕ
-arity Div = 2
-arity Mod = 2
-arity Abs = 1
-arity Min = 2
-arity Max = 2
-
 -- what is called where a value is wanted: an algorithm with a kind, a built-in, or a test of the Robot
-abbrev pub IsValueCall : Callee → (Placed → Type 0) → (BuiltIn → Type 0) → Type 0
-IsValueCall (Called a) algorithm built_in = IsThere a.algorithm.head.gives × algorithm a
-IsValueCall (BuiltInCall b) algorithm built_in = built_in b
-IsValueCall (RobotCall c) algorithm built_in = is_test c ≡ true
-IsValueCall (PenCall c) algorithm built_in = ⊥
-IsValueCall Unknown algorithm built_in = ⊥
+abbrev pub IsValueCall : Option (Callee Placed) → (Placed → Type 0) → (BuiltIn → Type 0) → Type 0
+IsValueCall (Some (Called a)) algorithm built_in = IsThere a.algorithm.head.gives × algorithm a
+IsValueCall (Some (BuiltInCall b)) algorithm built_in = built_in b
+IsValueCall (Some (RobotCall c)) algorithm built_in = is_test c ≡ true
+IsValueCall (Some (PenCall c)) algorithm built_in = ⊥
+IsValueCall None algorithm built_in = ⊥
 
-abbrev pub IsName : Option Kind → List ℕ → Site → Type 0
-IsName (Some kind) x t = Unit {0}
-IsName None x t = IsValueCall (callee t.program x) (λ a. Unit {0}) (λ b. ⊥)
+abbrev pub IsName : Option Variable → List ℕ → Site → Type 0
+IsName (Some v) x t = Unit {0}
+IsName None x t = IsValueCall (callee_in t.program x) (λ a. Unit {0}) (λ b. ⊥)
 
 -- an argument by its parameter: the name of a table, a value, or a place
 abbrev pub IsArgument : Option Limits → Mode → Type 0 → Type 0 → Type 0 → Type 0
@@ -57,10 +53,10 @@ abbrev mutual
   IsValue (Number z) t = Unit {0}
   IsValue (Truth b) t = Unit {0}
   IsValue Answer t = IsThere t.gives
-  IsValue (Named x) t = IsName (local_kind t.locals x) x t
+  IsValue (Named x) t = IsName (variable t.locals x) x t
   IsValue (Element x es) t = IsLocal t x × AreValues es t
   IsValue (Call f es) t =
-      IsValueCall (callee t.program f) (λ a. AreArguments es a.algorithm.head.params t) (λ b. (count es ≡ arity b) × AreValues es t)
+      IsValueCall (callee_in t.program f) (λ a. AreArguments es a.algorithm.head.params t) (λ b. (count es ≡ built_in_arity b) × AreValues es t)
   IsValue (Plus a) t = IsValue a t
   IsValue (Minus a) t = IsValue a t
   IsValue (Not a) t = IsValue a t
@@ -108,12 +104,12 @@ IsDeclared (Scalars kind names) t = Unit {0}
 IsDeclared (Tables kind tables) t = AreTables tables t
 
 -- what is called as a statement: an algorithm without a kind, or a command that is no test
-abbrev pub IsInvoked : Callee → Trees → Site → Type 0
-IsInvoked (Called a) es t = IsMissing a.algorithm.head.gives × AreArguments es a.algorithm.head.params t
-IsInvoked (BuiltInCall b) es t = ⊥
-IsInvoked (RobotCall c) es t = is_test c ≡ false
-IsInvoked (PenCall c) es t = (count es ≡ numbers_asked c) × AreValues es t
-IsInvoked Unknown es t = ⊥
+abbrev pub IsInvoked : Option (Callee Placed) → Trees → Site → Type 0
+IsInvoked (Some (Called a)) es t = IsMissing a.algorithm.head.gives × AreArguments es a.algorithm.head.params t
+IsInvoked (Some (BuiltInCall b)) es t = ⊥
+IsInvoked (Some (RobotCall c)) es t = is_test c ≡ false
+IsInvoked (Some (PenCall c)) es t = (count es ≡ pen_arity c) × AreValues es t
+IsInvoked None es t = ⊥
 
 -- inputs go to local names and their elements
 abbrev pub TakeInputs : List Place → Site → Type 0
@@ -134,7 +130,7 @@ abbrev mutual
   pub CanAct : tree.Act → Site → Type 0
   CanAct (Declare x) t = IsDeclared x t
   CanAct (Assign x e) t = IsTarget x t × IsValue e t
-  CanAct (Invoke x es) t = IsInvoked (callee t.program x) es t
+  CanAct (Invoke x es) t = IsInvoked (callee_in t.program x) es t
   CanAct (Times e b) t = IsValue e t × CanRun b t
   CanAct (While e b) t = IsValue e t × CanRun b t
   CanAct (Count x from to step b) t = IsLocal t x × IsValue from t × IsValue to t × IsStride step t × CanRun b t

@@ -4,10 +4,12 @@ use Rattle.kumir_tree.specs.Unit.{Known}
 use Rattle.kumir_tree.specs.Sound.{IsSound}
 use Rattle.performer_kit.specs.declared.commands.Reply.{Reply}
 use Rattle.kumir_values.specs.declared.value.Value.{Value}
-use Rattle.kumir_meaning.specs.Callees.{Program, program_of}
-use Rattle.kumir_meaning.specs.Samples.{adding, swapping}
-use Rattle.kumir_meaning.specs.Meaning.{run}
-use Rattle.stack_code.specs.CodeRuns.{CodeRun, Begins}
+use Rattle.kumir_meaning.specs.Program.{Program, program_of}
+use Rattle.kumir_meaning.specs.Algorithms.{run}
+use Rattle.kumir_meaning.specs.OrderRun.{adding}
+use Rattle.kumir_meaning.specs.CallsRun.{swapping}
+use Rattle.kumir_meaning.specs.Runs.{IsPrefix}
+use Rattle.stack_code.specs.CodeRuns.{CodeRun}
 use Rattle.type_check.specs.Margin.{program_faults}
 use Rattle.kumir_compiler.specs.Code.{code_of}
 use Rattle.kumir_compiler.specs.Compilable.{IsCompilable}
@@ -20,7 +22,7 @@ CodeMeansTheProgram =
 -- on more steps and more replies the acts of a program begin with those that it has on less
 abbrev pub MeaningOnlyGrows : Type 0
 MeaningOnlyGrows =
-    (p : Program) → IsCompilable p → (inputs : List Value) (r q : List Reply) (m n : ℕ) → m ≤ n → Begins r q → Begins (run p inputs r m).acts (run p inputs q n).acts
+    (p : Program) → IsCompilable p → (inputs : List Value) (r q : List Reply) (m n : ℕ) → m ≤ n → IsPrefix r q → IsPrefix (run p inputs r m).acts (run p inputs q n).acts
 
 -- the premise holds of the sample programs with calls in an expression, and with names and elements as `аргрез` arguments
 abbrev pub SamplesAreCompilable : Type 0

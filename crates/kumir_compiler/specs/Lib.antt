@@ -1,3 +1,9 @@
+pub mod Sites
+pub mod ArgumentCode
+pub mod ExpressionCode
+pub mod LoopCode
+pub mod StatementCode
+pub mod UnitCode
 pub mod Code
 pub mod Compilable
 pub mod Laws

@@ -2,3 +2,7 @@
 #![tactic(auto)]
 
 mod laws;
+
+pub use laws::{
+    code_means_the_program, faultless_is_compilable, meaning_only_grows, samples_are_compilable,
+};

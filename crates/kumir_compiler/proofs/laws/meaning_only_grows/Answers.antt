@@ -1,5 +1,5 @@
 use Rattle.stack_code.proofs.Traces.{only_grows}
-use Rattle.kumir_meaning.specs.Meaning.{usual}
+use Rattle.kumir_meaning.specs.Runs.{usual}
 use Rattle.kumir_compiler.specs.Code.{code_of}
 use Rattle.kumir_compiler.proofs.Scoped.{all_slotted}
 use Rattle.kumir_compiler.proofs.Programs.{code_means}

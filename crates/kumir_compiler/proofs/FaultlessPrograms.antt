@@ -11,22 +11,23 @@ use Rattle.kumir_tree.specs.Program as tree
 use Rattle.kumir_tree.specs.Program.{Stands, Declare, Assign, Invoke, Times, While, Count, Forever, Until, Choose, Select, Assert, Input, Output, Leave, Quit, Block, done, ◌next◌, Arms, no_arms, arm}
 use Rattle.kumir_tree.specs.Unit.{Algorithm, Ending, Grown, Prelude, Faulty, Known}
 use Rattle.kumir_tree.specs.Sound.{IsInputTarget, ActHolds, BlockHolds, ArmsHold, EndingHolds, HasDimensions, IsSound, IsUnitRead, IsPlaced, EndsUnit}
-use Rattle.kumir_meaning.specs.Callees as run_names
-use Rattle.kumir_meaning.specs.Callees.{Placed, Program, grown, program_of, callee, Locals, local_kind, params_of, act_names, stmt_names, block_names, arm_names}
+use Rattle.kumir_names.specs.declared.variable.Variable.{Variable}
+use Rattle.kumir_names.specs.Variables.{Names, variable, parameter, declares}
+use Rattle.kumir_names.specs.Callees.{Callee}
+use Rattle.kumir_meaning.specs.Program.{Placed, Program, grown, program_of, callee_in, act_names, stmt_names, block_names, arm_names}
 use Rattle.type_rules.specs.Callees as rules
-use Rattle.type_rules.specs.Callees.{Callees, Called}
+use Rattle.type_rules.specs.Callees.{Callees}
 use Rattle.type_rules.specs.Counted.{no_heads, with_head, head_fault, without_fault, counted_with, fault_on, fault_at, all_counted, all_faults, headers_in, header_faults}
-use Rattle.type_check.specs.declared.locals.Variable.{Variable}
-use Rattle.type_check.specs.Kinds.{Names, Among, variable, is_kind, kind_of, arguments}
+use Rattle.type_check.specs.Kinds.{Among, is_kind, kind_of, arguments}
 use Rattle.type_check.specs.Parts as checked
-use Rattle.type_check.specs.Parts.{Part, Parameters, Condition, Repeating, Counting, Declaring, Assigning, Calling, Reading, Printing, Pieces, pieces, claim_pieces, act_pieces, block_pieces, arms_pieces, declared_by, parameter, scalar, table, bounds_fit, some_bounds_fit, formals_fit, tables_fit, declares_fit, scalar_kind, places_fit, shown_fits, all_shown_fit, some_whole, fits}
+use Rattle.type_check.specs.Parts.{Part, Parameters, Condition, Repeating, Counting, Declaring, Assigning, Calling, Reading, Printing, Pieces, pieces, claim_pieces, act_pieces, block_pieces, arms_pieces, declared_by, bounds_fit, some_bounds_fit, formals_fit, tables_fit, declares_fit, scalar_kind, places_fit, shown_fits, all_shown_fit, some_whole, fits}
 use Rattle.type_check.specs.Checked.{is_local, with_local, with_locals, declared_again, behind, at_piece, fault_code, part_fault, faults_from, unit_faults}
 use Rattle.type_check.specs.Margin.{on_line, own_faults, placed_faults, all_placed_faults, program_faults}
 use Rattle.kumir_compiler.specs.Code as site
-use Rattle.kumir_compiler.specs.Code.{Site, header_site}
+use Rattle.kumir_compiler.specs.Code.{Site, in_checks, header_site}
 use Rattle.kumir_compiler.specs.Compilable.{IsThere, IsLocal, IsValue, AreLimits, IsTarget, AreTables, IsDeclared, TakeInputs, AreShown, IsStride, CanAct, CanRun, CanChoose, IsSomeClaim, AreBounds, AreFormals, IsCompilableAlgorithm, AreCompilable, IsCompilable}
-use Rattle.kumir_compiler.proofs.Callables.{Means, head_of, callees_in, means}
-use Rattle.kumir_compiler.proofs.Values.{both, is_there, kind_there, same_there, element_there, plain, local_is, local_there, answer_there, value_ok, values_ok, invoked_ok}
+use Rattle.kumir_compiler.proofs.SameCallees.{head_of, callees_in, same_callee}
+use Rattle.kumir_compiler.proofs.TypedValues.{both, is_there, kind_there, same_there, element_there, local_there, answer_there, value_ok, values_ok, invoked_ok}
 
 -- ---- no faults
 
@@ -60,54 +61,35 @@ none_again names (v ∷ vs) e =
     let w = neither (is_local names v.0) (declared_again (with_local names v) vs) e in
     none_again (with_local names v) vs w.1 ∙ ap (λ b. cond b names (names ++ v ∷ []) ++ vs) w.0 ∙ append_assoc names (v ∷ []) vs
 
-plain_both : (a b : Names) → plain (a ++ b) ≡ plain a ++ plain b
-plain_both [] b = refl
-plain_both (v ∷ a) b = ap (λ l. (v.0, v.1.kind) ∷ l) (plain_both a b)
-
-plain_scalars : (k : Kind) (xs : List (List ℕ)) → plain (map (scalar k) xs) ≡ run_names.declares (Scalars k xs)
-plain_scalars k [] = refl
-plain_scalars k (x ∷ xs) = ap (λ l. (x, k) ∷ l) (plain_scalars k xs)
-
-plain_tables : (k : Kind) (xs : List (List ℕ × Limits)) → plain (map (table k) xs) ≡ run_names.declares (Tables k xs)
-plain_tables k [] = refl
-plain_tables k (x ∷ xs) = ap (λ l. (x.0, k) ∷ l) (plain_tables k xs)
-
-plain_declares : (d : Declares) → plain (checked.declares d) ≡ run_names.declares d
-plain_declares (Scalars k xs) = plain_scalars k xs
-plain_declares (Tables k xs) = plain_tables k xs
-
-plain_params : (params : List Formal) → plain (map parameter params) ≡ params_of params
-plain_params [] = refl
-plain_params (q ∷ params) = ap (λ l. (q.name, q.kind) ∷ l) (plain_params params)
+kind_of_variable : (o : Option Variable) → IsThere o → IsThere (option_map (λ v. v.kind) o)
+kind_of_variable None h = absurd h
+kind_of_variable (Some v) h = tt
 
 scalar_there : (o : Option Variable) → IsThere (scalar_kind o) → IsThere o
 scalar_there None h = absurd h
 scalar_there (Some v) h = tt
 
-module _ (L : ℕ → Type 0) (B : Limits → Type 0) (p : Program) (gives : Option Kind) (find : List ℕ → Option Called) (calls : (x : List ℕ) → Means (find x) (callee p x)) where
+module _ (L : ℕ → Type 0) (B : Limits → Type 0) (p : Program) (gives : Option Kind) (find : List ℕ → Option (Callee Head)) (calls : (x : List ℕ) → find x ≡ in_checks (callee_in p x)) where
   abbrev among : Names → Among
   among names = record { find = find; gives = gives; names = names }
 
   abbrev At : Site → Names → Type 0
-  At t names = (t.program ≡ p) × (t.gives ≡ gives) × (t.locals ≡ plain names)
+  At t names = (t.program ≡ p) × (t.gives ≡ gives) × (t.locals ≡ names)
 
   -- ---- parts of statements
 
   module _ (t : Site) (names : Names) (at : At t names) where
-    locals_at : (x : List ℕ) → local_kind t.locals x ≡ option_map (λ v. v.kind) (variable names x)
-    locals_at x = ap (λ l. local_kind l x) at.2 ∙ local_is names x
-
-    calls_at : (x : List ℕ) → Means (find x) (callee t.program x)
-    calls_at x = subst (λ q. Means (find x) (callee q x)) (sym at.0) (calls x)
+    calls_at : (x : List ℕ) → find x ≡ in_checks (callee_in t.program x)
+    calls_at x = subst (λ q. find x ≡ in_checks (callee_in q x)) (sym at.0) (calls x)
 
     value_at : (e : Tree) → IsThere (kind_of (among names) e) → IsValue e t
-    value_at e h = value_ok (among names) t locals_at at.1 calls_at e h
+    value_at e h = value_ok (among names) t at.2 at.1 calls_at e h
 
     kind_at : (k : Kind) (e : Tree) → is_kind k (kind_of (among names) e) ≡ true → IsValue e t
     kind_at k e h = value_at e (kind_there k (kind_of (among names) e) h)
 
     local_at : (x : List ℕ) → IsThere (variable names x) → IsLocal t x
-    local_at x h = local_there (among names) t locals_at at.1 calls_at x h
+    local_at x h = local_there (among names) t at.2 at.1 calls_at x h
 
     limits_at : (limits : Limits) → bounds_fit (among names) limits ≡ true → AreLimits limits t
     limits_at [] e = tt
@@ -137,16 +119,16 @@ module _ (L : ℕ → Type 0) (B : Limits → Type 0) (p : Program) (gives : Opt
     declared_at (Tables k xs) e = tables_at xs e
 
     target_at : (x : Place) → IsThere (checked.place_kind (among names) x) → IsTarget x t
-    target_at ToAnswer h = answer_there (among names) t locals_at at.1 calls_at h
+    target_at ToAnswer h = answer_there (among names) t at.2 at.1 calls_at h
     target_at (ToScalar x) h = local_at x (scalar_there (variable names x) h)
     target_at (ToElement x es) h =
         let w = element_there (variable names x) (arguments (among names) es) h in
-        (local_at x w.0, values_ok (among names) t locals_at at.1 calls_at es w.1)
+        (local_at x w.0, values_ok (among names) t at.2 at.1 calls_at es w.1)
 
     variable_at : (x : Place) → IsInputTarget x → IsTarget x t → IsThere (site.place_kind x t)
     variable_at ToAnswer reads h = absurd reads
-    variable_at (ToScalar x) reads h = h
-    variable_at (ToElement x es) reads h = h.0
+    variable_at (ToScalar x) reads h = kind_of_variable (variable t.locals x) h
+    variable_at (ToElement x es) reads h = kind_of_variable (variable t.locals x) h.0
 
     inputs_at : (xs : List Place) → AllByRecursion IsInputTarget xs → places_fit (among names) xs ≡ true → TakeInputs xs t
     inputs_at [] holds e = tt
@@ -178,22 +160,20 @@ module _ (L : ℕ → Type 0) (B : Limits → Type 0) (p : Program) (gives : Opt
       (v.0, v.1, w.1)
 
   -- the local names go on by these, and the pieces that follow have no fault
-  abbrev Goes : Locals → Locals → Pieces → Type 0
-  Goes before here more = (new : Names) × (before ++ here ≡ plain new) × (faults_from find gives new more ≡ [])
+  abbrev Goes : Names → Names → Pieces → Type 0
+  Goes before here more = (new : Names) × (before ++ here ≡ new) × (faults_from find gives new more ≡ [])
 
-  further : (ls a b : Locals) (more : Pieces) → Goes (ls ++ a) b more → Goes ls (a ++ b) more
+  further : (ls a b : Names) (more : Pieces) → Goes (ls ++ a) b more → Goes ls (a ++ b) more
   further ls a b more g = (g.0, sym (append_assoc ls a b) ∙ g.1, g.2)
 
-  no_more : (ls : Locals) (names : Names) (more : Pieces) → ls ≡ plain names → faults_from find gives names more ≡ [] → Goes ls [] more
+  no_more : (ls : Names) (names : Names) (more : Pieces) → ls ≡ names → faults_from find gives names more ≡ [] → Goes ls [] more
   no_more ls names more e f = (names, append-nil ls ∙ e, f)
 
   split : (names : Names) (a b c : Pieces) → faults_from find gives names (a ++ b ++ c) ≡ [] → faults_from find gives names (a ++ (b ++ c)) ≡ []
   split names a b c e = subst (λ ps. faults_from find gives names ps ≡ []) (append_assoc a b c) e
 
-  declared : (t : Site) (names : Names) (d : Declares) → At t names → declared_again names (checked.declares d) ≡ false → t.locals ++ run_names.declares d ≡ plain (with_locals names (checked.declares d))
-  declared t names d at e =
-      ap (λ l. l ++ run_names.declares d) at.2 ∙ ap (λ l. plain names ++ l) (sym (plain_declares d))
-      ∙ sym (plain_both names (checked.declares d)) ∙ ap plain (sym (none_again names (checked.declares d) e))
+  declared : (t : Site) (names : Names) (d : Declares) → At t names → declared_again names (declares d) ≡ false → t.locals ++ declares d ≡ with_locals names (declares d)
+  declared t names d at e = ap (λ l. l ++ declares d) at.2 ∙ sym (none_again names (declares d) e)
 
   -- ---- statements
 
@@ -208,7 +188,7 @@ module _ (L : ℕ → Type 0) (B : Limits → Type 0) (p : Program) (gives : Opt
         ((target_at t names at x v.0, value_at t names at e v.1), no_more t.locals names more at.2 w.2)
     act_ok (Invoke x es) line t names more at holds f =
         let w = one_piece names line (Calling x es) more f in
-        (invoked_ok (among names) t (locals_at t names at) at.1 (calls_at t names at) x es w.1, no_more t.locals names more at.2 w.2)
+        (invoked_ok (among names) t at.2 at.1 (calls_at t names at) x es w.1, no_more t.locals names more at.2 w.2)
     act_ok (Times e b) line t names more at holds f =
         let w = one_piece names line (Repeating e) (block_pieces b ++ more) f in
         let r = block_ok b t names more at holds w.2 in
@@ -283,7 +263,7 @@ module _ (L : ℕ → Type 0) (B : Limits → Type 0) (p : Program) (gives : Opt
 
 -- ---- algorithms
 
-algorithm_ok : (p : Program) (find : List ℕ → Option Called) → ((x : List ℕ) → Means (find x) (callee p x)) → (L : ℕ → Type 0) (B : Limits → Type 0) (a : Placed) → BlockHolds L B a.algorithm.body → unit_faults find a.algorithm ≡ [] → IsCompilableAlgorithm p a
+algorithm_ok : (p : Program) (find : List ℕ → Option (Callee Head)) → ((x : List ℕ) → find x ≡ in_checks (callee_in p x)) → (L : ℕ → Type 0) (B : Limits → Type 0) (a : Placed) → BlockHolds L B a.algorithm.body → unit_faults find a.algorithm ≡ [] → IsCompilableAlgorithm p a
 algorithm_ok p find calls L B a holds f =
     let gives = a.algorithm.head.gives in
     let params = a.algorithm.head.params in
@@ -291,7 +271,7 @@ algorithm_ok p find calls L B a holds f =
     let t = header_site p a in
     let names = behind [] (Parameters params) in
     let w = one_piece L B p gives find calls [] a.algorithm.head.line (Parameters params) (claim_pieces a.algorithm.given ++ (claim_pieces a.algorithm.wanted ++ body)) f in
-    let at : (t.program ≡ p) × (t.gives ≡ gives) × (t.locals ≡ plain names) = (refl, refl, sym (plain_params params) ∙ ap plain (sym (none_again [] (map parameter params) w.0))) in
+    let at : (t.program ≡ p) × (t.gives ≡ gives) × (t.locals ≡ names) = (refl, refl, sym (none_again [] (map parameter params) w.0)) in
     let first = claim_ok L B p gives find calls a.algorithm.given t names (claim_pieces a.algorithm.wanted ++ body) at w.2 in
     let second = claim_ok L B p gives find calls a.algorithm.wanted t names body at first.1 in
     record {
@@ -310,7 +290,7 @@ on_lines u line = u.0 + line ≤ 4294967295
 abbrev IsGrown : ℕ × Known → Type 0
 IsGrown u = (a : Algorithm) × (u.1.ending ≡ Grown a) × (u.1.head ≡ Some a.head) × BlockHolds (on_lines u) HasDimensions a.body
 
-module _ (find : List ℕ → Option Called) where
+module _ (find : List ℕ → Option (Callee Head)) where
   grown_ending : (L : ℕ → Type 0) (B : Limits → Type 0) (head : Option Head) (e : Ending) → EndsUnit head e → EndingHolds L B e → own_faults find e ≡ []
       → (a : Algorithm) × (e ≡ Grown a) × (head ≡ Some a.head) × BlockHolds L B a.body
   grown_ending L B head (Grown a) ends holds f = (a, refl, ends, holds.3)
@@ -333,7 +313,7 @@ placed_at first a = record { first = first; algorithm = a }
 grown_is : (u : ℕ × Known) (units : List (ℕ × Known)) (a : Algorithm) → u.1.ending ≡ Grown a → grown (u ∷ units) ≡ placed_at u.0 a ∷ grown units
 grown_is u units a e = rw e refl
 
-all_compilable : (p : Program) (find : List ℕ → Option Called) → ((x : List ℕ) → Means (find x) (callee p x)) → (units : List (ℕ × Known)) → AllByRecursion IsGrown units → all_placed_faults find units ≡ [] → AreCompilable p (grown units)
+all_compilable : (p : Program) (find : List ℕ → Option (Callee Head)) → ((x : List ℕ) → find x ≡ in_checks (callee_in p x)) → (units : List (ℕ × Known)) → AllByRecursion IsGrown units → all_placed_faults find units ≡ [] → AreCompilable p (grown units)
 all_compilable p find calls [] all f = tt
 all_compilable p find calls (u ∷ units) all f =
     let a = all.0.0 in
@@ -387,4 +367,4 @@ compilable (prelude ∷ units) sound f =
     let all = all_grown find units sound.2 placed.1 in
     let found : headers_in (prelude ∷ units) ≡ callees_in p =
     ap (λ d. all_counted d units) first ∙ all_count start units all (subst (λ d. all_faults d units ≡ []) first headers.1) in
-    all_compilable p find (λ x. subst (λ c. Means (rules.callee c x) (callee p x)) (sym found) (means p x)) units all placed.1
+    all_compilable p find (λ x. subst (λ c. rules.callee c x ≡ in_checks (callee_in p x)) (sym found) (same_callee p x)) units all placed.1
