@@ -18,14 +18,14 @@ use Rattle.stack_code.specs.declared.unit.CodeUnit.{CodeUnit}
 use Rattle.stack_code.specs.CodeState.{Frame, Slots, Plain, with_slot, cell_in, numbers, next}
 use Rattle.stack_code.specs.Instructions.{pushes_result, if_fine, unit_at}
 use Rattle.kumir_compiler.specs.Code.{Code, Site, on, slot, hidden, keep_code, kept_at, enter_code, number_of_unit}
-use Rattle.kumir_compiler.proofs.Slotted.{is_among}
-use Rattle.kumir_compiler.proofs.Stands.{Stands, parts}
-use Rattle.kumir_compiler.proofs.Cells.{Same, grown, grown_agree, with_same}
+use Rattle.kumir_compiler.proofs.UsedHaveSlots.{is_among}
+use Rattle.kumir_compiler.proofs.CodeAt.{IsCodeAt, parts}
+use Rattle.kumir_compiler.proofs.SlotsHoldCells.{Same, grown, grown_agree, with_same}
 use Rattle.kumir_compiler.proofs.Reach.{here, Reaches, fewer, on_go, on_halt, on_tick, on_last, moved}
 use Rattle.kumir_compiler.proofs.Operands.{onto, numbers_onto}
 use Rattle.kumir_compiler.proofs.Evaluates.{Body, EvaluatesAll, line}
-use Rattle.kumir_compiler.proofs.Matches.{Indexed, indexed_more, MatchAll, all_pushed, back, back_numbers, onto_split, onto_length}
-use Rattle.kumir_compiler.proofs.Settled.{settled_ok, settled_err}
+use Rattle.kumir_compiler.proofs.PassedToPlaces.{Indexed, indexed_more, MatchAll, all_pushed, back, back_numbers, onto_split, onto_length}
+use Rattle.kumir_compiler.proofs.SettledPlaces.{settled_ok, settled_err}
 
 checked_is : (c : Cell) (index at : List ℤ) → checked c index ≡ Ok at → at ≡ index
 checked_is Empty index at e = cc
@@ -56,7 +56,7 @@ enter_fewer al p cs u fr enter N M le ok = record { by = λ K lt. ok.by K (omega
 module _ (al : Allowed) (cs : List CodeUnit) (u : ℕ) (fr : List Frame) (t : Site) where
   -- the values on top go into hidden slots, the topmost first
   pub keep_ok : (m : ℕ) (top : List Value) (N D x : ℕ) (h : Slots) (s : Store) (slots : Slots) (stack : List Value) (zs : List ℤ) (at : List ℕ) (pc end : ℕ) (a : Rest)
-      → length top ≡ m → x ≡ length t.variables + D → Indexed (length t.variables) D h zs at → Same t.variables D h s slots → Stands (Body al cs u fr t N D h) pc (keep_code m x t) end
+      → length top ≡ m → x ≡ length t.variables + D → Indexed (length t.variables) D h zs at → Same t.variables D h s slots → IsCodeAt (Body al cs u fr t N D h) pc (keep_code m x t) end
       → ((h1 slots1 : Slots) → ((i : ℕ) → i < D → h1 i ≡ h i) → Same t.variables (D + m) h1 s slots1 → Indexed (length t.variables) (D + m) h1 (back top zs) (kept_at m x at) → Reaches al cs N (here u fr end stack slots1 s.used) a)
       → Reaches al cs N (here u fr pc (top ++ stack) slots s.used) a
   keep_ok zero [] N D x h s slots stack zs at pc end a len is indexed same has go =
@@ -81,14 +81,14 @@ module _ (al : Allowed) (cs : List CodeUnit) (u : ℕ) (fr : List Frame) (t : Si
 
   -- an element whose indexes are checked and kept
   pub fixes_element : (x : List ℕ) (n N d : ℕ) (h : Slots) (b : Code) (evb : ThenValues → Then) → is_among t.variables (Local x) ≡ true → EvaluatesAll al cs u fr t N d h n b evb
-      → (pc end : ℕ) (s : Store) (slots : Slots) (stack : List Value) (k : Spot → Then) → Stands (Body al cs u fr t N d h) pc (b ++ (on t (instruction.Probe (slot t (Local x)) n) ∷ keep_code n (hidden t d) t)) end → Same t.variables d h s slots
+      → (pc end : ℕ) (s : Store) (slots : Slots) (stack : List Value) (k : Spot → Then) → IsCodeAt (Body al cs u fr t N d h) pc (b ++ (on t (instruction.Probe (slot t (Local x)) n) ∷ keep_code n (hidden t d) t)) end → Same t.variables d h s slots
       → ((index : List ℤ) (h1 : Slots) (s1 : Store) (slots1 : Slots) → ((i : ℕ) → i < d → h1 i ≡ h i) → Same t.variables (d + n) h1 s1 slots1 → Indexed (length t.variables) (d + n) h1 index (kept_at n (hidden t d) []) → Reaches al cs N (here u fr end stack slots1 s1.used) (k (AtElement x index) s1))
       → Reaches al cs N (here u fr pc stack slots s.used) (evb (λ is s1. unless_fault (settled (AtElement x (numbers_of is)) s1) t.line (λ spot. k spot s1)) s)
   fixes_element x n N d h b evb known eb pc end s slots stack k has same go =
       let y = parts (Body al cs u fr t N d h) pc b _ end has in
       eb pc y.0 s slots stack _ y.1 same (λ vs s1 slots1 len same1. probed y.0 y.2 vs s1 slots1 len same1 (checked (s1.cells (Local x)) (numbers_of vs)) refl)
     where
-      probed : (at : ℕ) → Stands (Body al cs u fr t N d h) at (on t (instruction.Probe (slot t (Local x)) n) ∷ keep_code n (hidden t d) t) end → (vs : List Value) (s1 : Store) (slots1 : Slots) → length vs ≡ n → Same t.variables d h s1 slots1
+      probed : (at : ℕ) → IsCodeAt (Body al cs u fr t N d h) at (on t (instruction.Probe (slot t (Local x)) n) ∷ keep_code n (hidden t d) t) end → (vs : List Value) (s1 : Store) (slots1 : Slots) → length vs ≡ n → Same t.variables d h s1 slots1
           → (r : Result (List ℤ) RunFault) → checked (s1.cells (Local x)) (numbers_of vs) ≡ r → Reaches al cs N (here u fr at (onto vs stack) slots1 s1.used) (unless_fault (settled (AtElement x (numbers_of vs)) s1) t.line (λ spot. k spot s1))
       probed at h1 vs s1 slots1 len same1 (Err fault) e =
           subst (λ w. Reaches al cs N (here u fr at (onto vs stack) slots1 s1.used) (unless_fault w t.line (λ spot. k spot s1))) (sym (settled_err x (numbers_of vs) s1 fault e))
@@ -110,7 +110,7 @@ module _ (al : Allowed) (cs : List CodeUnit) (u : ℕ) (fr : List Frame) (t : Si
 
   -- a step, and then the call
   pub enters_ok : (p : Program) (enter : Enter) (N D : ℕ) (h : Slots) (f : List ℕ) (a : Placed) (places : List CallPlace) (passed : List Passed) → t.program ≡ p → EnterOk al p cs u fr enter N → callee_in p f ≡ Some (Called a) → MatchAll t.variables D h a.algorithm.head.params passed places
-      → (pc end : ℕ) (s : Store) (slots : Slots) (stack : List Value) (k : ThenValue) → Stands (Body al cs u fr t N D h) pc (enter_code f places t) end → Same t.variables D h s slots
+      → (pc end : ℕ) (s : Store) (slots : Slots) (stack : List Value) (k : ThenValue) → IsCodeAt (Body al cs u fr t N D h) pc (enter_code f places t) end → Same t.variables D h s slots
       → ((v : Value) (s1 : Store) (slots1 : Slots) → Same t.variables D h s1 slots1 → Reaches al cs N (here u fr end (with_answer a.algorithm.head.gives v stack) slots1 s1.used) (k v s1))
       → Reaches al cs N (here u fr pc (onto (all_pushed passed) stack) slots s.used) (tick (λ s1. enter t.line a passed s1 k) s)
   enters_ok p enter zero D h f a places passed is ok e match pc end s slots stack k has same go =
@@ -121,7 +121,7 @@ module _ (al : Allowed) (cs : List CodeUnit) (u : ℕ) (fr : List Frame) (t : Si
       (λ v s1 slots1 same1. moved al cs u fr N _ _ (with_answer a.algorithm.head.gives v stack) slots1 s1.used _ has.1.1 (fewer al cs N (suc N) _ _ (omega arith) (go v s1 slots1 same1))))
 
   -- the indexes that were kept are pushed again
-  pub loads_kept : (index : List ℤ) (at : List ℕ) (N D : ℕ) (h : Slots) (s : Store) (slots : Slots) (stack : List Value) (pc end : ℕ) (a : Rest) → Indexed (length t.variables) D h index at → Same t.variables D h s slots → Stands (Body al cs u fr t N D h) pc (map (λ x. on t (instruction.Load x)) at) end
+  pub loads_kept : (index : List ℤ) (at : List ℕ) (N D : ℕ) (h : Slots) (s : Store) (slots : Slots) (stack : List Value) (pc end : ℕ) (a : Rest) → Indexed (length t.variables) D h index at → Same t.variables D h s slots → IsCodeAt (Body al cs u fr t N D h) pc (map (λ x. on t (instruction.Load x)) at) end
       → ((vs : List Value) → numbers_of vs ≡ index → length vs ≡ length at → Reaches al cs N (here u fr end (onto vs stack) slots s.used) a)
       → Reaches al cs N (here u fr pc stack slots s.used) a
   loads_kept [] [] N D h s slots stack pc end a indexed same has go = moved al cs u fr N pc end stack slots s.used a has (go [] refl refl)

@@ -21,9 +21,9 @@ use Rattle.stack_code.specs.CodeState.{State, Frame, Slots, numbers, next}
 use Rattle.performer_kit.specs.Commands.{is_test}
 use Rattle.stack_code.specs.Instructions.{On, Over, Asks, pushes_result, operates, applies, event_of, step, unit_at}
 use Rattle.kumir_compiler.specs.Code.{Code, Site, on, jump, jump_no, slot}
-use Rattle.kumir_compiler.proofs.Slotted.{is_among}
-use Rattle.kumir_compiler.proofs.Stands.{Stands, parts, spans}
-use Rattle.kumir_compiler.proofs.Cells.{Same}
+use Rattle.kumir_compiler.proofs.UsedHaveSlots.{is_among}
+use Rattle.kumir_compiler.proofs.CodeAt.{IsCodeAt, parts, spans}
+use Rattle.kumir_compiler.proofs.SlotsHoldCells.{Same}
 use Rattle.kumir_compiler.proofs.Reach.{here, Reaches, on_go, on_step, on_asks, on_gives, after_on, line_at, moved}
 use Rattle.kumir_compiler.proofs.Operands.{onto, taken_onto, drop_onto, numbers_onto}
 
@@ -48,11 +48,11 @@ module _ (al : Allowed) (cs : List CodeUnit) (u : ℕ) (fr : List Frame) (t : Si
   -- code that leaves a value, or n values
   abbrev pub Evaluates : Code → (ThenValue → Then) → Type 0
   Evaluates code eval =
-      (pc end : ℕ) (s : Store) (slots : Slots) (stack : List Value) (k : ThenValue) → Stands Body pc code end → Same t.variables d h s slots → TakesValue end stack k → At pc stack slots s (eval k s)
+      (pc end : ℕ) (s : Store) (slots : Slots) (stack : List Value) (k : ThenValue) → IsCodeAt Body pc code end → Same t.variables d h s slots → TakesValue end stack k → At pc stack slots s (eval k s)
 
   abbrev pub EvaluatesAll : ℕ → Code → (ThenValues → Then) → Type 0
   EvaluatesAll n code eval =
-      (pc end : ℕ) (s : Store) (slots : Slots) (stack : List Value) (k : ThenValues) → Stands Body pc code end → Same t.variables d h s slots → TakesValues end stack n k → At pc stack slots s (eval k s)
+      (pc end : ℕ) (s : Store) (slots : Slots) (stack : List Value) (k : ThenValues) → IsCodeAt Body pc code end → Same t.variables d h s slots → TakesValues end stack n k → At pc stack slots s (eval k s)
 
   pub line : (pc : ℕ) (stack : List Value) (slots : Slots) (s : Store) (l : CodeLine) → slice_get Body pc ≡ Some l → step al cs (here u fr pc stack slots s.used) ≡ event_of al cs l.what l.line (here u fr pc stack slots s.used)
   line pc stack slots s l e = line_at al cs u fr pc stack slots s.used l e
@@ -110,7 +110,7 @@ module _ (al : Allowed) (cs : List CodeUnit) (u : ℕ) (fr : List Frame) (t : Si
       ea pc x.0 s slots stack _ x.1 same
       (λ v s1 slots1 same1. on_go al cs N _ _ _ (line x.0 (v ∷ stack) slots1 s1 _ x.2.0) (either (is_yes v) x.0 x.2 s1 slots1 same1))
     where
-      either : (c : Bool) (at : ℕ) → Stands Body at (jump_no t 2 ∷ on t (instruction.Push (Truth true)) ∷ jump t (length b) ∷ b) end → (s1 : Store) (slots1 : Slots) → Same t.variables d h s1 slots1 → At (cond c (at + 1) (at + 1 + 2)) stack slots1 s1 (unless_decided (cond c (Some (Truth true)) None) k (evb (λ w s2. k w s2)) s1)
+      either : (c : Bool) (at : ℕ) → IsCodeAt Body at (jump_no t 2 ∷ on t (instruction.Push (Truth true)) ∷ jump t (length b) ∷ b) end → (s1 : Store) (slots1 : Slots) → Same t.variables d h s1 slots1 → At (cond c (at + 1) (at + 1 + 2)) stack slots1 s1 (unless_decided (cond c (Some (Truth true)) None) k (evb (λ w s2. k w s2)) s1)
       either true at h1 s1 slots1 same1 =
           let e : at + 1 + 1 + 1 + length b ≡ end = sym (spans Body _ b end h1.1.1.1) in
           on_go al cs N _ _ _ (line (at + 1) stack slots1 s1 _ h1.1.0)
@@ -127,7 +127,7 @@ module _ (al : Allowed) (cs : List CodeUnit) (u : ℕ) (fr : List Frame) (t : Si
       ea pc x.0 s slots stack _ x.1 same
       (λ v s1 slots1 same1. on_go al cs N _ _ _ (line x.0 (v ∷ stack) slots1 s1 _ x.2.0) (either (is_yes v) x.0 x.2 s1 slots1 same1))
     where
-      either : (c : Bool) (at : ℕ) → Stands Body at (jump_no t (length b + 1) ∷ (b ++ (jump t 1 ∷ on t (instruction.Push (Truth false)) ∷ []))) end → (s1 : Store) (slots1 : Slots) → Same t.variables d h s1 slots1 → At (cond c (at + 1) (at + 1 + (length b + 1))) stack slots1 s1 (unless_decided (cond c None (Some (Truth false))) k (evb (λ w s2. k w s2)) s1)
+      either : (c : Bool) (at : ℕ) → IsCodeAt Body at (jump_no t (length b + 1) ∷ (b ++ (jump t 1 ∷ on t (instruction.Push (Truth false)) ∷ []))) end → (s1 : Store) (slots1 : Slots) → Same t.variables d h s1 slots1 → At (cond c (at + 1) (at + 1 + (length b + 1))) stack slots1 s1 (unless_decided (cond c None (Some (Truth false))) k (evb (λ w s2. k w s2)) s1)
       either true at h1 s1 slots1 same1 =
           let y = parts Body (at + 1) b _ end h1.1 in
           let e0 = y.2.1.1 in

@@ -27,13 +27,13 @@ use Rattle.stack_code.specs.CodeState.{State, Frame, Slots, cell_in, numbers}
 use Rattle.stack_code.specs.Instructions.{pushes_result, operates, applies, event_of, unit_at}
 use Rattle.type_check.specs.Kinds.{form_kind}
 use Rattle.kumir_compiler.specs.Code.{Code, Site, on, hidden, position, kept_at, by_kind, among, built_in_code, call_code, named_code, enter_code, argument_code, tree_keeps, keeps, tree_place, call_place, call_places, read_code, tree_code, trees_code, arguments_code, place_code}
-use Rattle.kumir_compiler.proofs.Slotted.{is_among, HasSlot, IsThere, IsValueCall, IsName, IsArgument, IsValue, AreValues, AreArguments, IsPlace}
-use Rattle.kumir_compiler.proofs.Stands.{Stands, parts}
-use Rattle.kumir_compiler.proofs.Cells.{Same, narrowed}
+use Rattle.kumir_compiler.proofs.UsedHaveSlots.{is_among, HasSlot, IsThere, IsValueCall, IsName, IsArgument, IsValue, AreValues, AreArguments, IsPlace}
+use Rattle.kumir_compiler.proofs.CodeAt.{IsCodeAt, parts}
+use Rattle.kumir_compiler.proofs.SlotsHoldCells.{Same, narrowed}
 use Rattle.kumir_compiler.proofs.Reach.{here, Reaches, moved, on_gives}
 use Rattle.kumir_compiler.proofs.Operands.{onto, drop_onto, numbers_onto}
 use Rattle.kumir_compiler.proofs.Evaluates.{Evaluates, EvaluatesAll, line, pushes, loads, negates, denies, combines, disjoins, conjoins, no_values, more_values, elements_of, applies_to, tests}
-use Rattle.kumir_compiler.proofs.Matches.{Indexed, SpotAt, Matches, matches_more, MatchAll, pushed, all_pushed, onto_both, all_keep}
+use Rattle.kumir_compiler.proofs.PassedToPlaces.{Indexed, SpotAt, Matches, matches_more, MatchAll, pushed, all_pushed, onto_both, all_keep}
 use Rattle.kumir_compiler.proofs.Arguments.{with_answer, EnterOk, fixes_element, enters_ok, loads_kept, kept_length}
 
 module _ (al : Allowed) (p : Program) (cs : List CodeUnit) (u : ℕ) (fr : List Frame) (enter : Enter) (names : List CellName) (answer : Option Kind) (first : ℕ) where
@@ -65,7 +65,7 @@ module _ (al : Allowed) (p : Program) (cs : List CodeUnit) (u : ℕ) (fr : List 
       → Reaches al cs N (here u fr end (onto (all_pushed passed) stack) slots s.used) (k passed s)
 
   -- the value at a place that was fixed
-  reads_ok : (e : Tree) (t : Site) (x : Spot) (N d : ℕ) (h : Slots) (s : Store) (slots : Slots) (stack : List Value) (pc end : ℕ) (k : Value → Rest) → t.variables ≡ names → IsPlace e t → SpotAt names (d + tree_keeps e) h x (tree_place e t d) → Same t.variables (d + tree_keeps e) h s slots → Stands Lines pc (read_code e t d) end
+  reads_ok : (e : Tree) (t : Site) (x : Spot) (N d : ℕ) (h : Slots) (s : Store) (slots : Slots) (stack : List Value) (pc end : ℕ) (k : Value → Rest) → t.variables ≡ names → IsPlace e t → SpotAt names (d + tree_keeps e) h x (tree_place e t d) → Same t.variables (d + tree_keeps e) h s slots → IsCodeAt Lines pc (read_code e t d) end
       → ((v : Value) → Reaches al cs N (here u fr end (v ∷ stack) slots s.used) (k v)) → Reaches al cs N (here u fr pc stack slots s.used) (unless_fault (read_at x s) t.line k)
   reads_ok (Named x) t (AtVariable y) N d h s slots stack pc end k is known at same has go =
       on_gives al cs (read (s.cells y)) N t.line (here u fr pc stack slots s.used) stack _ k
@@ -100,9 +100,9 @@ module _ (al : Allowed) (p : Program) (cs : List CodeUnit) (u : ℕ) (fr : List 
   -- one argument, by its parameter
   argument_ok : (o : Option Limits) (mode : Mode) (e : Tree) (row : ℕ) (locals : Names) (N d : ℕ) (h : Slots)
       → (IsValue e (site row locals) → Evaluates al cs u fr (site row locals) N d h (tree_code e (site row locals) d) (λ k. eval e (spot_of row locals) k))
-      → (IsPlace e (site row locals) → (pc end : ℕ) (s : Store) (slots : Slots) (stack : List Value) (k : Spot → Then) → Stands Lines pc (place_code e (site row locals) d) end → Same names d h s slots → TakesSpot (site row locals) N d h end stack e k → Reaches al cs N (here u fr pc stack slots s.used) (fixes e (spot_of row locals) k s))
+      → (IsPlace e (site row locals) → (pc end : ℕ) (s : Store) (slots : Slots) (stack : List Value) (k : Spot → Then) → IsCodeAt Lines pc (place_code e (site row locals) d) end → Same names d h s slots → TakesSpot (site row locals) N d h end stack e k → Reaches al cs N (here u fr pc stack slots s.used) (fixes e (spot_of row locals) k s))
       → IsArgument o mode (HasSlot (site row locals) (Local (name_of e))) (IsValue e (site row locals)) (IsPlace e (site row locals))
-      → (pc end : ℕ) (s : Store) (slots : Slots) (stack : List Value) (k : Passed → Then) → Stands Lines pc (argument_code o mode (tree_code e (site row locals) d) (place_code e (site row locals) d) (read_code e (site row locals) d)) end → Same names d h s slots
+      → (pc end : ℕ) (s : Store) (slots : Slots) (stack : List Value) (k : Passed → Then) → IsCodeAt Lines pc (argument_code o mode (tree_code e (site row locals) d) (place_code e (site row locals) d) (read_code e (site row locals) d)) end → Same names d h s slots
       → TakesOne (site row locals) N d h end stack o mode e k
       → Reaches al cs N (here u fr pc stack slots s.used) (passes o mode (name_of e) (λ k1. eval e (spot_of row locals) k1) (λ k1. fixes e (spot_of row locals) k1) (spot_of row locals) k s)
   argument_ok (Some limits) mode e row locals N d h iv ip known pc end s slots stack k has same go =
@@ -127,7 +127,7 @@ module _ (al : Allowed) (p : Program) (cs : List CodeUnit) (u : ℕ) (fr : List 
 
   -- a call of an algorithm with a kind, behind its arguments
   answers_ok : (f : List ℕ) (a : Placed) (es : Trees) (row : ℕ) (locals : Names) (N d : ℕ) (h : Slots) → EnterOk al p cs u fr enter N → callee_in p f ≡ Some (Called a) → IsThere a.algorithm.head.gives
-      → ((pc end : ℕ) (s : Store) (slots : Slots) (stack : List Value) (k : List Passed → Then) → Stands Lines pc (arguments_code es a.algorithm.head.params (site row locals) d) end → Same names d h s slots → TakesPassed (site row locals) N d h end stack es a.algorithm.head.params k → Reaches al cs N (here u fr pc stack slots s.used) (args es a.algorithm.head.params (spot_of row locals) k s))
+      → ((pc end : ℕ) (s : Store) (slots : Slots) (stack : List Value) (k : List Passed → Then) → IsCodeAt Lines pc (arguments_code es a.algorithm.head.params (site row locals) d) end → Same names d h s slots → TakesPassed (site row locals) N d h end stack es a.algorithm.head.params k → Reaches al cs N (here u fr pc stack slots s.used) (args es a.algorithm.head.params (spot_of row locals) k s))
       → Evaluates al cs u fr (site row locals) N d h (arguments_code es a.algorithm.head.params (site row locals) d ++ enter_code f (call_places es a.algorithm.head.params (site row locals) d) (site row locals)) (λ k. args es a.algorithm.head.params (spot_of row locals) (λ passed. steps_in a passed (spot_of row locals) k))
   answers_ok f a es row locals N d h ok e there ia pc end s slots stack k has same go =
       let w = parts Lines pc (arguments_code es a.algorithm.head.params (site row locals) d) _ end has in
@@ -212,7 +212,7 @@ module _ (al : Allowed) (p : Program) (cs : List CodeUnit) (u : ℕ) (fr : List 
         more_values al cs u fr (site row locals) N d h (count es) (tree_code e (site row locals) d) (trees_code es (site row locals) d) (λ k. eval e (spot_of row locals) k) (λ k. values es (spot_of row locals) k) (tree_ok e row locals N d h ok known.0) (trees_ok es row locals N d h ok known.1)
 
     pub arguments_ok : (es : Trees) (params : List Formal) (row : ℕ) (locals : Names) (N d : ℕ) (h : Slots) → EnterOk al p cs u fr enter N → AreArguments es params (site row locals)
-        → (pc end : ℕ) (s : Store) (slots : Slots) (stack : List Value) (k : List Passed → Then) → Stands Lines pc (arguments_code es params (site row locals) d) end → Same names d h s slots → TakesPassed (site row locals) N d h end stack es params k
+        → (pc end : ℕ) (s : Store) (slots : Slots) (stack : List Value) (k : List Passed → Then) → IsCodeAt Lines pc (arguments_code es params (site row locals) d) end → Same names d h s slots → TakesPassed (site row locals) N d h end stack es params k
         → Reaches al cs N (here u fr pc stack slots s.used) (args es params (spot_of row locals) k s)
     arguments_ok no_trees params row locals N d h ok known pc end s slots stack k has same go =
         let z : d ≡ d + 0 = omega arith in
@@ -234,7 +234,7 @@ module _ (al : Allowed) (p : Program) (cs : List CodeUnit) (u : ℕ) (fr : List 
         ))))
 
     pub place_ok : (e : Tree) (row : ℕ) (locals : Names) (N d : ℕ) (h : Slots) → EnterOk al p cs u fr enter N → IsPlace e (site row locals)
-        → (pc end : ℕ) (s : Store) (slots : Slots) (stack : List Value) (k : Spot → Then) → Stands Lines pc (place_code e (site row locals) d) end → Same names d h s slots → TakesSpot (site row locals) N d h end stack e k
+        → (pc end : ℕ) (s : Store) (slots : Slots) (stack : List Value) (k : Spot → Then) → IsCodeAt Lines pc (place_code e (site row locals) d) end → Same names d h s slots → TakesSpot (site row locals) N d h end stack e k
         → Reaches al cs N (here u fr pc stack slots s.used) (fixes e (spot_of row locals) k s)
     place_ok (Named x) row locals N d h ok known pc end s slots stack k has same go =
         let z : d ≡ d + 0 = omega arith in

@@ -14,9 +14,9 @@ use Rattle.stack_code.specs.CodeState.{State, Frame, Slots, Plain, Left, Numbers
 use Rattle.stack_code.specs.Instructions as code
 use Rattle.stack_code.specs.Instructions.{Go, unit_at}
 use Rattle.kumir_compiler.specs.Code.{Code, Site, slot, hidden, while_code, turns_code, forever_code, until_code, choice_code}
-use Rattle.kumir_compiler.proofs.Slotted.{is_among}
-use Rattle.kumir_compiler.proofs.Stands.{Stands, parts, spans}
-use Rattle.kumir_compiler.proofs.Cells.{Same, stored, grown, shrunk, with_same}
+use Rattle.kumir_compiler.proofs.UsedHaveSlots.{is_among}
+use Rattle.kumir_compiler.proofs.CodeAt.{IsCodeAt, parts, spans}
+use Rattle.kumir_compiler.proofs.SlotsHoldCells.{Same, stored, grown, shrunk, with_same}
 use Rattle.kumir_compiler.proofs.Reach.{here, Reaches, fewer, on_go, on_tick, on_last, on_none, on_step, moved, on_branch}
 use Rattle.kumir_compiler.proofs.Evaluates.{GoesOn, Evaluates, line}
 
@@ -27,14 +27,14 @@ module _ (al : Allowed) (cs : List CodeUnit) (u : ℕ) (fr : List Frame) (t : Si
   -- code with a way out, which leads behind the places that follow it
   abbrev pub Acts : ℕ → ℕ → Slots → Code → ℕ → (Then → Then → Then) → Type 0
   Acts N d h body after runs =
-      (pc end away : ℕ) (s : Store) (slots : Slots) (stack : List Value) (out k : Then) → Stands Lines pc body end → away ≡ end + after → Same t.variables d h s slots
+      (pc end away : ℕ) (s : Store) (slots : Slots) (stack : List Value) (out k : Then) → IsCodeAt Lines pc body end → away ≡ end + after → Same t.variables d h s slots
       → GoesOn al cs u fr t N d h away stack out → GoesOn al cs u fr t N d h end stack k → Reaches al cs N (here u fr pc stack slots s.used) (runs out k s)
 
   goes_fewer : (N M d : ℕ) (h : Slots) (pc : ℕ) (stack : List Value) (k : Then) → N ≤ M → GoesOn al cs u fr t M d h pc stack k → GoesOn al cs u fr t N d h pc stack k
   goes_fewer N M d h pc stack k le g s slots same = fewer al cs N M _ (k s) le (g s slots same)
 
   pub while_ok : (m N M d : ℕ) (h : Slots) (test body : Code) (evt : ThenValue → Then) (runs : Then → Then → Then) → N ≤ m → N ≤ M → ((K : ℕ) → K ≤ M → Evaluates al cs u fr t K d h test evt) → ((K : ℕ) → K ≤ M → Acts K d h body 1 runs)
-      → (pc end : ℕ) (s : Store) (slots : Slots) (stack : List Value) (k : Then) → Stands Lines pc (while_code test body t) end → Same t.variables d h s slots → GoesOn al cs u fr t N d h end stack k
+      → (pc end : ℕ) (s : Store) (slots : Slots) (stack : List Value) (k : Then) → IsCodeAt Lines pc (while_code test body t) end → Same t.variables d h s slots → GoesOn al cs u fr t N d h end stack k
       → Reaches al cs N (here u fr pc stack slots s.used) (while_yes m evt runs k s)
   while_ok zero zero M d h test body evt runs le lm ot ob pc end s slots stack k has same go = on_none al cs _ _ (line al cs u fr t 0 d h pc stack slots s _ has.0)
   while_ok zero (suc N) M d h test body evt runs le lm ot ob pc end s slots stack k has same go = absurd (omega arith)
@@ -60,7 +60,7 @@ module _ (al : Allowed) (cs : List CodeUnit) (u : ℕ) (fr : List Frame) (t : Si
       (moved al cs u fr N _ end stack slots1 s1.used (k s1) exit (less s1 slots1 same1)))))
 
   pub forever_ok : (m N M d : ℕ) (h : Slots) (body : Code) (runs : Then → Then → Then) → N ≤ m → N ≤ M → ((K : ℕ) → K ≤ M → Acts K d h body 1 runs)
-      → (pc end : ℕ) (s : Store) (slots : Slots) (stack : List Value) (k : Then) → Stands Lines pc (forever_code body t) end → Same t.variables d h s slots → GoesOn al cs u fr t N d h end stack k
+      → (pc end : ℕ) (s : Store) (slots : Slots) (stack : List Value) (k : Then) → IsCodeAt Lines pc (forever_code body t) end → Same t.variables d h s slots → GoesOn al cs u fr t N d h end stack k
       → Reaches al cs N (here u fr pc stack slots s.used) (forever m runs k s)
   forever_ok zero zero M d h body runs le lm ob pc end s slots stack k has same go = on_none al cs _ _ (line al cs u fr t 0 d h pc stack slots s _ has.0)
   forever_ok zero (suc N) M d h body runs le lm ob pc end s slots stack k has same go = absurd (omega arith)
@@ -80,7 +80,7 @@ module _ (al : Allowed) (cs : List CodeUnit) (u : ℕ) (fr : List Frame) (t : Si
 
   -- the end of the loop, with its test, stands at r
   pub until_ok : (r : Site) → r.variables ≡ t.variables → (m N M d : ℕ) (h : Slots) (body test : Code) (runs : Then → Then → Then) (evt : ThenValue → Then) → N ≤ m → N ≤ M → ((K : ℕ) → K ≤ M → Evaluates al cs u fr t K d h test evt) → ((K : ℕ) → K ≤ M → Acts K d h body (length test + 2) runs)
-      → (pc end : ℕ) (s : Store) (slots : Slots) (stack : List Value) (k : Then) → Stands Lines pc (until_code body test t r) end → Same t.variables d h s slots → GoesOn al cs u fr t N d h end stack k
+      → (pc end : ℕ) (s : Store) (slots : Slots) (stack : List Value) (k : Then) → IsCodeAt Lines pc (until_code body test t r) end → Same t.variables d h s slots → GoesOn al cs u fr t N d h end stack k
       → Reaches al cs N (here u fr pc stack slots s.used) (until m runs evt k s)
   until_ok r er zero zero M d h body test runs evt le lm ot ob pc end s slots stack k has same go = on_none al cs _ _ (line al cs u fr t 0 d h pc stack slots s _ has.0)
   until_ok r er zero (suc N) M d h body test runs evt le lm ot ob pc end s slots stack k has same go = absurd (omega arith)
@@ -106,7 +106,7 @@ module _ (al : Allowed) (cs : List CodeUnit) (u : ℕ) (fr : List Frame) (t : Si
 
   -- the turns that are left stand in the hidden slot
   pub turns_ok : (m N M c d : ℕ) (h : Slots) (body : Code) (runs : Then → Then → Then) → N ≤ m → N ≤ M → ((c1 K : ℕ) → K ≤ M → Acts K (d + 1) (with_slot h d (Left c1)) body 1 runs)
-      → (pc end : ℕ) (s : Store) (slots : Slots) (stack : List Value) (k : Then) → Stands Lines pc (turns_code (hidden t d) None body t) end → Same t.variables (d + 1) (with_slot h d (Left c)) s slots → GoesOn al cs u fr t N d h end stack k
+      → (pc end : ℕ) (s : Store) (slots : Slots) (stack : List Value) (k : Then) → IsCodeAt Lines pc (turns_code (hidden t d) None body t) end → Same t.variables (d + 1) (with_slot h d (Left c)) s slots → GoesOn al cs u fr t N d h end stack k
       → Reaches al cs N (here u fr pc stack slots s.used) (turns m c runs k s)
   turns_ok zero zero M c d h body runs le lm ob pc end s slots stack k has same go = on_none al cs _ _ (line al cs u fr t 0 d h pc stack slots s _ has.0)
   turns_ok zero (suc N) M c d h body runs le lm ob pc end s slots stack k has same go = absurd (omega arith)
@@ -144,7 +144,7 @@ module _ (al : Allowed) (cs : List CodeUnit) (u : ℕ) (fr : List Frame) (t : Si
 
   -- the next number, the last one and the step stand in the hidden slot
   pub counts_ok : (x : List ℕ) → is_among t.variables (Local x) ≡ true → (m N M d : ℕ) (z last by : ℤ) (h : Slots) (body : Code) (runs : Then → Then → Then) → N ≤ m → N ≤ M → ((z1 : ℤ) (K : ℕ) → K ≤ M → Acts K (d + 1) (with_slot h d (Numbers z1 last by)) body 1 runs)
-      → (pc end : ℕ) (s : Store) (slots : Slots) (stack : List Value) (k : Then) → Stands Lines pc (turns_code (hidden t d) (Some (slot t (Local x))) body t) end → Same t.variables (d + 1) (with_slot h d (Numbers z last by)) s slots → GoesOn al cs u fr t N d h end stack k
+      → (pc end : ℕ) (s : Store) (slots : Slots) (stack : List Value) (k : Then) → IsCodeAt Lines pc (turns_code (hidden t d) (Some (slot t (Local x))) body t) end → Same t.variables (d + 1) (with_slot h d (Numbers z last by)) s slots → GoesOn al cs u fr t N d h end stack k
       → Reaches al cs N (here u fr pc stack slots s.used) (counts m z last by x runs k s)
   counts_ok x known zero zero M d z last by h body runs le lm ob pc end s slots stack k has same go = on_none al cs _ _ (line al cs u fr t 0 d h pc stack slots s _ has.0)
   counts_ok x known zero (suc N) M d z last by h body runs le lm ob pc end s slots stack k has same go = absurd (omega arith)
@@ -170,9 +170,9 @@ module _ (al : Allowed) (cs : List CodeUnit) (u : ℕ) (fr : List Frame) (t : Si
       (moved al cs u fr N _ pc stack slots2 s2.used _ begin (counts_ok x known m N M d (z +ℤ by) last by h body runs (omega arith) (omega arith) ob pc end s2 slots2 stack k has same2 less))))))
 
   -- one of two codes, by the value on top
-  pub choice_ok : (a b : Code) (v : Value) (N d : ℕ) (h : Slots) (pc end : ℕ) (s : Store) (slots : Slots) (stack : List Value) (x y : Then) → Stands Lines pc (choice_code a b t) end
-      → ((mid : ℕ) → Stands Lines (pc + 1) a mid → end ≡ mid + (length b + 1) → ((s1 : Store) (slots1 : Slots) (q : Rest) → Reaches al cs N (here u fr end stack slots1 s1.used) q → Reaches al cs N (here u fr mid stack slots1 s1.used) q) → Reaches al cs N (here u fr (pc + 1) stack slots s.used) (x s))
-      → ((at : ℕ) → Stands Lines at b end → Reaches al cs N (here u fr at stack slots s.used) (y s))
+  pub choice_ok : (a b : Code) (v : Value) (N d : ℕ) (h : Slots) (pc end : ℕ) (s : Store) (slots : Slots) (stack : List Value) (x y : Then) → IsCodeAt Lines pc (choice_code a b t) end
+      → ((mid : ℕ) → IsCodeAt Lines (pc + 1) a mid → end ≡ mid + (length b + 1) → ((s1 : Store) (slots1 : Slots) (q : Rest) → Reaches al cs N (here u fr end stack slots1 s1.used) q → Reaches al cs N (here u fr mid stack slots1 s1.used) q) → Reaches al cs N (here u fr (pc + 1) stack slots s.used) (x s))
+      → ((at : ℕ) → IsCodeAt Lines at b end → Reaches al cs N (here u fr at stack slots s.used) (y s))
       → Reaches al cs N (here u fr pc (v ∷ stack) slots s.used) (choose (is_yes v) x y s)
   choice_ok a b v N d h pc end s slots stack x y has first_way otherwise =
       let w = parts Lines (pc + 1) a _ end has.1 in

@@ -5,7 +5,7 @@ use Rattle.std.specs.Ordering.{int_eq}
 use Rattle.kumir_tree.specs.declared.kind.Kind.{Kind}
 use Rattle.kumir_tree.specs.Tree.{Tree}
 use Rattle.kumir_tree.specs.Program as tree
-use Rattle.kumir_tree.specs.Program.{Stmt, Stands as StandsAt, Declare, Assign, Invoke, Times, While, Count, Forever, Until, Choose, Select, Assert, Input, Output, Leave, Quit, Block, done, ◌next◌, Arms, no_arms, arm}
+use Rattle.kumir_tree.specs.Program.{Stmt, Stands, Declare, Assign, Invoke, Times, While, Count, Forever, Until, Choose, Select, Assert, Input, Output, Leave, Quit, Block, done, ◌next◌, Arms, no_arms, arm}
 use Rattle.kumir_values.specs.declared.value.Value.{Value}
 use Rattle.kumir_values.specs.declared.value.Value.TheVariants.{Whole}
 use Rattle.kumir_values.specs.declared.run_end.RunFault.TheVariants.{StepZero}
@@ -23,14 +23,14 @@ use Rattle.stack_code.specs.declared.unit.CodeUnit.{CodeUnit}
 use Rattle.stack_code.specs.CodeState.{State, Frame, Slots, Left, Numbers, with_slot}
 use Rattle.stack_code.specs.Instructions.{Go, Halt, unit_at, step}
 use Rattle.kumir_compiler.specs.Code.{Site, on, hidden, tree_code, stride_code, act_code, stmt_code, block_code, arms_code}
-use Rattle.kumir_compiler.proofs.Slotted.{IsStride, CanAct, CanRun, CanChoose}
-use Rattle.kumir_compiler.proofs.Stands.{Stands, parts, spans}
-use Rattle.kumir_compiler.proofs.Cells.{Same, grown}
+use Rattle.kumir_compiler.proofs.UsedHaveSlots.{IsStride, CanAct, CanRun, CanChoose}
+use Rattle.kumir_compiler.proofs.CodeAt.{IsCodeAt, parts, spans}
+use Rattle.kumir_compiler.proofs.SlotsHoldCells.{Same, grown}
 use Rattle.kumir_compiler.proofs.Reach.{here, Reaches, on_go, on_halt, on_step, moved}
 use Rattle.kumir_compiler.proofs.Evaluates.{GoesOn, line}
 use Rattle.kumir_compiler.proofs.Arguments.{EnterOk, enter_fewer}
 use Rattle.kumir_compiler.proofs.Expressions.{site, spot_of, tree_ok}
-use Rattle.kumir_compiler.proofs.Simple.{assigns_ok, inputs_ok, outputs_ok, claims_ok, establishes_ok, invokes_ok}
+use Rattle.kumir_compiler.proofs.SimpleStatements.{assigns_ok, inputs_ok, outputs_ok, claims_ok, establishes_ok, invokes_ok}
 use Rattle.kumir_compiler.proofs.Loops.{Acts, while_ok, forever_ok, until_ok, turns_ok, counts_ok, choice_ok}
 
 module _ (al : Allowed) (p : Program) (cs : List CodeUnit) (u : ℕ) (fr : List Frame) (enter : Enter) (names : List CellName) (answer : Option Kind) (first : ℕ) where
@@ -51,7 +51,7 @@ module _ (al : Allowed) (p : Program) (cs : List CodeUnit) (u : ℕ) (fr : List 
 
   -- the step of `для`, and the begin of its turns
   stride_ok : (o : Option Tree) (row : ℕ) (locals : Names) (N d : ℕ) (h : Slots) → Ok N → IsStride o (T row locals) → (pc mid : ℕ) (s : Store) (slots : Slots) (v w : Value) (stack : List Value) (k : ℤ → Then)
-      → Stands Lines pc (stride_code o (T row locals) d) mid → slice_get Lines mid ≡ Some (on (T row locals) (instruction.Turns (hidden (T row locals) d)) mid) → Same names d h s slots
+      → IsCodeAt Lines pc (stride_code o (T row locals) d) mid → slice_get Lines mid ≡ Some (on (T row locals) (instruction.Turns (hidden (T row locals) d)) mid) → Same names d h s slots
       → ((z : ℤ) (s1 : Store) (slots1 : Slots) → Same names (d + 1) (with_slot h d (Numbers (number_of v) (number_of w) z)) s1 slots1 → Reaches al cs N (here u fr (mid + 1) stack slots1 s1.used) (k z s1))
       → Reaches al cs N (here u fr pc (w ∷ v ∷ stack) slots s.used) (stride o (At row locals) k s)
   stride_ok None row locals N d h ok known pc mid s slots v w stack k has has2 same go =
@@ -136,18 +136,18 @@ module _ (al : Allowed) (p : Program) (cs : List CodeUnit) (u : ℕ) (fr : List 
 
     pub block_ok : (b : Block) (row : ℕ) (locals : Names) (n N d after : ℕ) (h : Slots) → N ≤ n → Ok N → CanRun b (T row locals) → Acts al cs u fr (T row locals) N d h (block_code b (T row locals) d after) after (λ out k s. runs b (At row locals) n out k s)
     block_ok done row locals n N d after h le ok known pc end away s slots stack out k has e same leave go = moved al cs u fr N pc end stack slots s.used (k s) has (go s slots same)
-    block_ok (StandsAt below a next b) row locals n N d after h le ok known pc end away s slots stack out k has e same leave go =
-        let cb = block_code b (T row (locals ++ stmt_names (StandsAt below a))) d after in
-        let w = parts Lines pc (stmt_code (StandsAt below a) (T row locals) d (length cb + after)) cb end has in
+    block_ok (Stands below a next b) row locals n N d after h le ok known pc end away s slots stack out k has e same leave go =
+        let cb = block_code b (T row (locals ++ stmt_names (Stands below a))) d after in
+        let w = parts Lines pc (stmt_code (Stands below a) (T row locals) d (length cb + after)) cb end has in
         let e1 = spans Lines w.0 cb end w.2 in
-        on_step al cs N _ _ (λ s1. carries_out a (At (first + below) locals) n out (λ s2. runs b (At row (locals ++ stmt_names (StandsAt below a))) n out k s2) s1) s (line al cs u fr (T (first + below) locals) N d h pc stack slots s _ w.1.0)
-        (act_ok a (first + below) locals n N d (length cb + after) h le ok known.0 (pc + 1) w.0 away s slots stack out (λ s2. runs b (At row (locals ++ stmt_names (StandsAt below a))) n out k s2) w.1.1 (omega arith) same leave
-        (λ s2 slots2 same2. block_ok b row (locals ++ stmt_names (StandsAt below a)) n N d after h le ok known.1 w.0 end away s2 slots2 stack out k w.2 e same2 leave go))
+        on_step al cs N _ _ (λ s1. carries_out a (At (first + below) locals) n out (λ s2. runs b (At row (locals ++ stmt_names (Stands below a))) n out k s2) s1) s (line al cs u fr (T (first + below) locals) N d h pc stack slots s _ w.1.0)
+        (act_ok a (first + below) locals n N d (length cb + after) h le ok known.0 (pc + 1) w.0 away s slots stack out (λ s2. runs b (At row (locals ++ stmt_names (Stands below a))) n out k s2) w.1.1 (omega arith) same leave
+        (λ s2 slots2 same2. block_ok b row (locals ++ stmt_names (Stands below a)) n N d after h le ok known.1 w.0 end away s2 slots2 stack out k w.2 e same2 leave go))
 
     pub arms_ok : (arms : Arms) (row : ℕ) (locals : Names) (n N d after : ℕ) (h : Slots) → N ≤ n → Ok N → (rest : Block) → CanChoose arms (T row locals) (λ t. CanRun rest t)
-        → (pc end away : ℕ) (s : Store) (slots : Slots) (stack : List Value) (out k : Then) → Stands Lines pc (arms_code arms (T row locals) d after (λ t. block_code rest t d after)) end → away ≡ end + after → Same names d h s slots
+        → (pc end away : ℕ) (s : Store) (slots : Slots) (stack : List Value) (out k : Then) → IsCodeAt Lines pc (arms_code arms (T row locals) d after (λ t. block_code rest t d after)) end → away ≡ end + after → Same names d h s slots
         → GoesOn al cs u fr (T row locals) N d h away stack out → GoesOn al cs u fr (T row locals) N d h end stack k
-        → ((locals1 : Names) → CanRun rest (T row locals1) → (at : ℕ) (s1 : Store) (slots1 : Slots) → Stands Lines at (block_code rest (T row locals1) d after) end → Same names d h s1 slots1 → Reaches al cs N (here u fr at stack slots1 s1.used) (runs rest (At row locals1) n out k s1))
+        → ((locals1 : Names) → CanRun rest (T row locals1) → (at : ℕ) (s1 : Store) (slots1 : Slots) → IsCodeAt Lines at (block_code rest (T row locals1) d after) end → Same names d h s1 slots1 → Reaches al cs N (here u fr at stack slots1 s1.used) (runs rest (At row locals1) n out k s1))
         → Reaches al cs N (here u fr pc stack slots s.used) (selects arms (At row locals) n out k (λ h1 s1. runs rest h1 n out k s1) s)
     arms_ok no_arms row locals n N d after h le ok rest known pc end away s slots stack out k has e same leave go last_ok = last_ok locals known pc s slots has same
     arms_ok (arm below y b more) row locals n N d after h le ok rest known pc end away s slots stack out k has e same leave go last_ok =

@@ -4,7 +4,7 @@ use Rattle.std.proofs.lemmas.Bool.Decides.{nat_tests}
 use Rattle.std.proofs.lemmas.Slice.Eq.{bytes_eq-Decides}
 use Rattle.kumir_meaning.specs.Store.{CellName, TheAnswer, Local, same_cell_name}
 use Rattle.kumir_compiler.specs.Code.{position}
-use Rattle.kumir_compiler.proofs.Slotted.{is_among}
+use Rattle.kumir_compiler.proofs.UsedHaveSlots.{is_among}
 
 pub same_itself : (x : CellName) → same_cell_name x x ≡ true
 same_itself TheAnswer = refl

@@ -2,7 +2,6 @@
 -- A piece of code is a list of lines by the place at which each stands. Jumps are counted from their own place, so that code can be joined.
 use Rattle.std.specs.Prelude.{ℕ, suc, ◌+◌, ◌-◌, List, [], ◌∷◌, ◌++◌, length, Option, Some, None, if◌then◌else◌}
 use Rattle.kumir_tree.specs.declared.kind.Kind.{Kind}
-use Rattle.kumir_tree.specs.Tree.{◌then◌}
 use Rattle.kumir_tree.specs.Part.{Head}
 use Rattle.kumir_names.specs.Callees.{BuiltInCall, Called, Callee, PenCall, RobotCall}
 use Rattle.kumir_names.specs.Variables.{Names}

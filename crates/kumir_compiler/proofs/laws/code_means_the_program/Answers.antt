@@ -1,5 +1,5 @@
-use Rattle.kumir_compiler.proofs.Scoped.{all_slotted}
-use Rattle.kumir_compiler.proofs.Programs.{code_means}
+use Rattle.kumir_compiler.proofs.LocalsHaveSlots.{all_slotted}
+use Rattle.kumir_compiler.proofs.ProgramsMean.{code_means}
 use Rattle.kumir_compiler.proofs.laws.code_means_the_program.Goals as goal
 
 pub returns : goal.returns

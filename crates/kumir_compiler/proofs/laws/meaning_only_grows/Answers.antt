@@ -1,8 +1,8 @@
 use Rattle.stack_code.proofs.Traces.{only_grows}
 use Rattle.kumir_meaning.specs.Runs.{usual}
 use Rattle.kumir_compiler.specs.Code.{code_of}
-use Rattle.kumir_compiler.proofs.Scoped.{all_slotted}
-use Rattle.kumir_compiler.proofs.Programs.{code_means}
+use Rattle.kumir_compiler.proofs.LocalsHaveSlots.{all_slotted}
+use Rattle.kumir_compiler.proofs.ProgramsMean.{code_means}
 use Rattle.kumir_compiler.proofs.laws.meaning_only_grows.Goals as goal
 
 pub returns : goal.returns

@@ -32,20 +32,20 @@ use Rattle.stack_code.specs.Instructions as code
 use Rattle.stack_code.specs.Instructions.{Event, Go, Halt, if_fine, values_taken, unit_at, step, Begun}
 use Rattle.stack_code.specs.CodeRuns.{start}
 use Rattle.kumir_compiler.specs.Code.{Site, slot, position, number_of_unit, limits_code, some_claim_code, bounds_code, fits_code, answer_of, variables_of, header_site, algorithm_code, param_slots, answer_slot, unit_code, code_of, block_code}
-use Rattle.kumir_compiler.proofs.Slotted.{is_among, AreBounds, AreFormals, IsSomeClaim, IsCompilableAlgorithm, AreCompilable, IsCompilable}
+use Rattle.kumir_compiler.proofs.UsedHaveSlots.{is_among, AreBounds, AreFormals, IsSomeClaim, IsCompilableAlgorithm, AreCompilable, IsCompilable}
 use Rattle.stack_code.specs.CodeRuns.{CodeRun}
-use Rattle.kumir_compiler.proofs.Stands.{Stands, parts, stands_all}
+use Rattle.kumir_compiler.proofs.CodeAt.{IsCodeAt, parts, code_from_start}
 use Rattle.kumir_compiler.proofs.Variables.{same_itself, among_behind}
-use Rattle.kumir_compiler.proofs.Cells.{Same}
+use Rattle.kumir_compiler.proofs.SlotsHoldCells.{Same}
 use Rattle.kumir_compiler.proofs.Reach.{here, Reaches, on_go, on_halt, on_fine, line_at, moved}
 use Rattle.kumir_compiler.proofs.Operands.{onto, taken_onto, drop_onto, numbers_onto}
 use Rattle.kumir_compiler.proofs.Evaluates.{GoesOn, line}
-use Rattle.kumir_compiler.proofs.Matches.{all_pushed}
+use Rattle.kumir_compiler.proofs.PassedToPlaces.{all_pushed}
 use Rattle.kumir_compiler.proofs.Arguments.{with_answer, EnterOk}
 use Rattle.kumir_compiler.proofs.Expressions.{site, spot_of}
-use Rattle.kumir_compiler.proofs.Simple.{Serves, claims_ok, limits_ok}
+use Rattle.kumir_compiler.proofs.SimpleStatements.{Serves, claims_ok, limits_ok}
 use Rattle.kumir_compiler.proofs.Statements.{block_ok}
-use Rattle.kumir_compiler.proofs.Received.{AllAmong, received, all_taken, all_back, used_back}
+use Rattle.kumir_compiler.proofs.ReceivedParameters.{AllAmong, received, all_taken, all_back, used_back}
 
 -- ---- formal bounds, `дано` and `надо`
 module _ (al : Allowed) (p : Program) (cs : List CodeUnit) (u : ℕ) (fr : List Frame) (enter : Enter) (names : List CellName) (answer : Option Kind) (first : ℕ) (row : ℕ) (locals : Names) (N : ℕ) (h : Slots) (ok : EnterOk al p cs u fr enter N) where
@@ -59,7 +59,7 @@ module _ (al : Allowed) (p : Program) (cs : List CodeUnit) (u : ℕ) (fr : List 
   some_claim_ok None known pc end s slots stack k has same go = moved al cs u fr N pc end stack slots s.used (k s) has (go s slots same)
   some_claim_ok (Some c) known pc end s slots stack k has same go = claims_ok al p cs u fr enter names answer first (first + c.0) locals N 0 h ok c.1 known pc end s slots stack k has same go
 
-  bounds_ok : (mode : Mode) (kind : Kind) (name : List ℕ) (o : Option Limits) (params : List Formal) → is_among names (Local name) ≡ true → AreBounds o T → (pc end : ℕ) (s : Store) (slots : Slots) (stack : List Value) (k : Then) → Stands Lines pc (bounds_code o name T) end → Same names 0 h s slots
+  bounds_ok : (mode : Mode) (kind : Kind) (name : List ℕ) (o : Option Limits) (params : List Formal) → is_among names (Local name) ≡ true → AreBounds o T → (pc end : ℕ) (s : Store) (slots : Slots) (stack : List Value) (k : Then) → IsCodeAt Lines pc (bounds_code o name T) end → Same names 0 h s slots
       → ((s1 : Store) (slots1 : Slots) → Same names 0 h s1 slots1 → Reaches al cs N (here u fr end stack slots1 s1.used) (fits params (spot_of al p cs u fr enter names answer first row locals) k s1))
       → Reaches al cs N (here u fr pc stack slots s.used) (fits (record { mode = mode; kind = kind; name = name; bounds = o } ∷ params) (spot_of al p cs u fr enter names answer first row locals) k s)
   bounds_ok mode kind name None params known limits pc end s slots stack k has same go = moved al cs u fr N pc end stack slots s.used _ has (go s slots same)
@@ -133,7 +133,7 @@ module _ (al : Allowed) (p : Program) (cs : List CodeUnit) where
       let names = variables_of a in
       let Lines = (unit_at cs u).body in
       let code0 = algorithm_code a t in
-      let whole : Stands Lines 0 code0 (length code0) = subst (λ l. Stands l 0 code0 (length code0)) (sym (ap (λ q. q.body) is)) (stands_all code0) in
+      let whole : IsCodeAt Lines 0 code0 (length code0) = subst (λ l. IsCodeAt l 0 code0 (length code0)) (sym (ap (λ q. q.body) is)) (code_from_start code0) in
       let w1 = parts Lines 0 (fits_code a.algorithm.head.params t) _ (length code0) whole in
       let w2 = parts Lines w1.0 (some_claim_code a.algorithm.given t) _ (length code0) w1.2 in
       let w3 = parts Lines w2.0 (block_code a.algorithm.body t 0 0) _ (length code0) w2.2 in

@@ -27,15 +27,15 @@ use Rattle.stack_code.specs.Instructions as code
 use Rattle.performer_kit.specs.Commands.{pen_arity}
 use Rattle.stack_code.specs.Instructions.{Event, Go, Halt, Does, Asks, After, On, Over, if_fine, unit_at, step}
 use Rattle.kumir_compiler.specs.Code.{Code, Site, on, slot, aim_code, store_code, claim_code, limits_code, tables_code, declares_code, invoke_code, place_kind, kind_or_whole, inputs_code, outputs_code, tree_code, trees_code, arguments_code, call_places}
-use Rattle.kumir_compiler.proofs.Slotted.{is_among, IsThere, IsMissing, IsValue, AreLimits, IsTarget, HaveSlots, AreTables, IsDeclared, IsInvoked, TakeInputs, AreShown}
-use Rattle.kumir_compiler.proofs.Stands.{Stands, parts}
-use Rattle.kumir_compiler.proofs.Cells.{Same, stored, counted, narrowed}
+use Rattle.kumir_compiler.proofs.UsedHaveSlots.{is_among, IsThere, IsMissing, IsValue, AreLimits, IsTarget, HaveSlots, AreTables, IsDeclared, IsInvoked, TakeInputs, AreShown}
+use Rattle.kumir_compiler.proofs.CodeAt.{IsCodeAt, parts}
+use Rattle.kumir_compiler.proofs.SlotsHoldCells.{Same, stored, counted, narrowed}
 use Rattle.kumir_compiler.proofs.Reach.{here, Reaches, Follows, on_go, on_halt, on_step, on_does, on_asks, on_takes, after_on, after_over, moved}
 use Rattle.kumir_compiler.proofs.Operands.{onto, drop_onto, numbers_onto}
 use Rattle.kumir_compiler.proofs.Evaluates.{GoesOn, line}
-use Rattle.kumir_compiler.proofs.Matches.{all_keep}
+use Rattle.kumir_compiler.proofs.PassedToPlaces.{all_keep}
 use Rattle.kumir_compiler.proofs.Arguments.{with_answer, EnterOk, enters_ok}
-use Rattle.kumir_compiler.proofs.Settled.{settled_ok, settled_err}
+use Rattle.kumir_compiler.proofs.SettledPlaces.{settled_ok, settled_err}
 use Rattle.kumir_compiler.proofs.Expressions.{site, spot_of, tree_ok, trees_ok, arguments_ok}
 
 -- the place of a target by its indexes, and how many there are
@@ -62,9 +62,9 @@ module _ (al : Allowed) (p : Program) (cs : List CodeUnit) (u : ℕ) (fr : List 
 
   -- code that goes on
   abbrev pub Serves : Code → (Then → Then) → Type 0
-  Serves code act = (pc end : ℕ) (s : Store) (slots : Slots) (stack : List Value) (k : Then) → Stands Lines pc code end → Same names d h s slots → GoesOn al cs u fr T N d h end stack k → Reaches al cs N (here u fr pc stack slots s.used) (act k s)
+  Serves code act = (pc end : ℕ) (s : Store) (slots : Slots) (stack : List Value) (k : Then) → IsCodeAt Lines pc code end → Same names d h s slots → GoesOn al cs u fr T N d h end stack k → Reaches al cs N (here u fr pc stack slots s.used) (act k s)
 
-  aims_ok : (x : Place) → IsTarget x T → (pc end : ℕ) (s : Store) (slots : Slots) (stack : List Value) (k : Spot → Then) → Stands Lines pc (aim_code x T d) end → Same names d h s slots
+  aims_ok : (x : Place) → IsTarget x T → (pc end : ℕ) (s : Store) (slots : Slots) (stack : List Value) (k : Spot → Then) → IsCodeAt Lines pc (aim_code x T d) end → Same names d h s slots
       → ((vs : List Value) (s1 : Store) (slots1 : Slots) → length vs ≡ aim_count x → Same names d h s1 slots1 → Reaches al cs N (here u fr end (onto vs stack) slots1 s1.used) (k (aim x vs) s1))
       → Reaches al cs N (here u fr pc stack slots s.used) (aims x (spot_of al p cs u fr enter names answer first row locals) k s)
   aims_ok ToAnswer known pc end s slots stack k has same go = moved al cs u fr N pc end stack slots s.used _ has (go [] s slots refl same)
@@ -175,7 +175,7 @@ module _ (al : Allowed) (p : Program) (cs : List CodeUnit) (u : ℕ) (fr : List 
       (clears_ok xs known.1 (pc + 1) end _ _ stack k has.1 (stored names d h s slots (Local x) Empty (Plain Empty) known.0 refl same) go)
 
   -- bounds leave their numbers in pairs
-  pub limits_ok : (limits : Limits) → AreLimits limits T → (pc end : ℕ) (s : Store) (slots : Slots) (stack : List Value) (k : List Bound → Then) → Stands Lines pc (limits_code limits T d) end → Same names d h s slots
+  pub limits_ok : (limits : Limits) → AreLimits limits T → (pc end : ℕ) (s : Store) (slots : Slots) (stack : List Value) (k : List Bound → Then) → IsCodeAt Lines pc (limits_code limits T d) end → Same names d h s slots
       → ((vs : List Value) (s1 : Store) (slots1 : Slots) → length vs ≡ 2 * length limits → Same names d h s1 slots1 → Reaches al cs N (here u fr end (onto vs stack) slots1 s1.used) (k (paired (numbers_of vs)) s1))
       → Reaches al cs N (here u fr pc stack slots s.used) (bounds limits (spot_of al p cs u fr enter names answer first row locals) k s)
   limits_ok [] known pc end s slots stack k has same go = moved al cs u fr N pc end stack slots s.used _ has (go [] s slots (omega arith) same)

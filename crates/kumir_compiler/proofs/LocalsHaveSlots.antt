@@ -20,7 +20,7 @@ use Rattle.kumir_meaning.specs.Store.{CellName, TheAnswer, Local}
 use Rattle.kumir_meaning.specs.Expressions.{name_of}
 use Rattle.kumir_compiler.specs.Code.{Site, on_line, behind, answer_of, variables_of, header_site}
 use Rattle.kumir_compiler.specs.Compilable as scoped
-use Rattle.kumir_compiler.proofs.Slotted.{is_among, HasSlot, IsThere, IsValueCall, IsName, IsArgument, IsValue, AreValues, AreArguments, IsPlace, AreLimits, IsTarget, HaveSlots, AreTables, IsInvoked, TakeInputs, AreShown, IsStride, CanAct, CanRun, CanChoose, IsSomeClaim, AreBounds, AreFormals, IsCompilableAlgorithm, AreCompilable}
+use Rattle.kumir_compiler.proofs.UsedHaveSlots.{is_among, HasSlot, IsThere, IsValueCall, IsName, IsArgument, IsValue, AreValues, AreArguments, IsPlace, AreLimits, IsTarget, HaveSlots, AreTables, IsInvoked, TakeInputs, AreShown, IsStride, CanAct, CanRun, CanChoose, IsSomeClaim, AreBounds, AreFormals, IsCompilableAlgorithm, AreCompilable}
 use Rattle.kumir_compiler.proofs.Variables.{same_itself, among_behind}
 
 -- these names are among the variables
