@@ -37,18 +37,19 @@ impl Stop for Once {
     }
 }
 
+// Nothing is built here but lines within their limits, so what fails is memory.
 fn text_of(alloc: Global, text: &str) -> Result<Arc<Text>, Memory> {
     let mut lines: Lines = Items::new(alloc);
     for line in text.lines() {
-        let Ok(line) = Line::of_text(alloc, line) else {
-            return Err(Memory);
-        };
-        lines.push(line)?;
+        match Line::of_text(alloc, line) {
+            Ok(line) => lines.push(line)?,
+            Err(_) => return Err(Memory),
+        }
     }
-    let Ok(text) = Text::from_lines(alloc, lines) else {
-        return Err(Memory);
-    };
-    Ok(text.shared(alloc)?)
+    match Text::from_lines(alloc, lines) {
+        Ok(text) => Ok(text.shared(alloc)?),
+        Err(_) => Err(Memory),
+    }
 }
 
 // What comes of the analysis of a version of a text.
