@@ -81,7 +81,7 @@ fn texts_are_refused_past_each_limit(rt: HostRuntime) -> Result<(), Fail> {
     assert!(rt; has_lines(&text, &[long.as_str(), "алг", "кон"]));
     lines = lines_of(rt.alloc(), &[])?;
     for _ in 0..128 {
-        lines.push(line_of(rt.alloc(), long.as_str())?)?;
+        lines.push(Line::of_text(rt.alloc(), long.as_str())?)?;
     }
     // 128 lines of 2,048 bytes and 127 bytes between them are too many
     assert!(rt;
@@ -92,7 +92,7 @@ fn texts_are_refused_past_each_limit(rt: HostRuntime) -> Result<(), Fail> {
     );
     lines = lines_of(rt.alloc(), &[])?;
     for _ in 0..8_193 {
-        lines.push(line_of(rt.alloc(), "")?)?;
+        lines.push(Line::of_text(rt.alloc(), "")?)?;
     }
     assert!(rt;
         matches!(
