@@ -24,17 +24,15 @@ fn words_of(rt: &HostRuntime) -> Result<Vec<String>, AllocError> {
 }
 
 // Carries out the command of the arguments. Without memory for these there is none.
-fn run(rt: &HostRuntime) -> Status {
-    let Ok(words) = words_of(rt) else {
-        return Status::Memory;
-    };
+fn run(rt: &HostRuntime) -> Result<Status, AllocError> {
+    let words = words_of(rt)?;
     let mut input = StdSource::new(rt.stdin());
     let mut output = StdSink::new(rt.stdout());
-    workbench(rt.alloc(), words.as_slice(), &mut input, &mut output)
+    Ok(workbench(rt.alloc(), words.as_slice(), &mut input, &mut output))
 }
 
 fn main(rt: HostRuntime) -> ExitCode {
-    let status = run(&rt);
+    let status = run(&rt).unwrap_or_else(Status::from);
     if let Some(complaint) = Complaint::of(&status) {
         let _ = rt.eprintln(complaint);
     }
