@@ -1,7 +1,7 @@
 ghost use Rattle.std.specs.Prelude.{[], ◌∷◌, if◌then◌else◌};
 
 use incr_analysis::{Analysed, Analyser, Analysis, NeverStop, Stop};
-use km_base::{Ledger, Memory, Steps};
+use km_base::{Memory, Steps, Uncounted};
 use kumir_tree::{Line, Lines};
 use sqlite_items::Items;
 use std::alloc::Global;
@@ -9,11 +9,6 @@ use std::sync::Arc;
 use std::test::Fail;
 use text_versions::Text;
 use type_check::CleanRefusal;
-
-// Work that nobody counts.
-struct Uncounted;
-
-impl Ledger for Uncounted {}
 
 // Tells of a version once.
 #[derive(Drop)]

@@ -8,6 +8,11 @@ use std::marker::{Model, PhantomData};
 /// Names a kind of work whose steps are counted. It has no functions.
 pub trait Ledger {}
 
+/// Work whose steps nobody reads off.
+pub struct Uncounted;
+
+impl Ledger for Uncounted {}
+
 /// How many steps of one kind of work were taken. It takes no bytes at run time and has no last value.
 #[derive(Drop)]
 pub struct Steps<L: Ledger> {

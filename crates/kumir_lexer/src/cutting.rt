@@ -56,14 +56,15 @@ pub enum Step {
 /// The greatest number that a program can write.
 const GREATEST_NUMBER: u64 = 2_147_483_647;
 
-/// The longest token that is a prefix of the text. `named` says that the token before is a word that is no keyword.
-pub fn longest(named: bool, text: &[char]) -> Option<(Class, usize)>
+/// The longest token that is a prefix of the text; `is_after_name` says that the token before is a word that is no
+/// keyword.
+pub fn longest(is_after_name: bool, text: &[char]) -> Option<(Class, usize)>
     requires { 1 ≤ length text.now }
-    ensures some { IfSome result (λ found. Longest named found.0 text.now found.1) }
-    ensures none { IfNone result (NoneStands named text.now) }
+    ensures some { IfSome result (λ found. Longest is_after_name found.0 text.now found.1) }
+    ensures none { IfNone result (NoneStands is_after_name text.now) }
 {
     let first = text[0];
-    if begins(named, first) {
+    if begins(is_after_name, first) {
         Some((Class::Word, word_len(text)))
     } else if is_digit(first) {
         let real = real_len(text);
@@ -182,14 +183,14 @@ fn behind(line: &[char], at: usize) -> &[char]
 }
 
 /// What stands at a place of the line that is neither blank nor in a comment.
-pub fn next_step(alloc: Global, named: bool, line: &[char], at: usize) -> Result<Step, AllocError>
+pub fn next_step(alloc: Global, is_after_name: bool, line: &[char], at: usize) -> Result<Step, AllocError>
     requires inside { at < length line.now }
     requires size { length line.now < 4294967295 }
-    ensures { IfOk result (IsStep named line.now at) }
+    ensures { IfOk result (IsStep is_after_name line.now at) }
 {
     let rest = behind(line, at);
     let place = at as u32;
-    let Some((class, len)) = longest(named, rest) else {
+    let Some((class, len)) = longest(is_after_name, rest) else {
         let code = bad_code(rest[0]);
         return Ok(Step::Fault(LexFault { code, place }));
     };

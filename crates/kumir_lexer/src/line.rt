@@ -40,7 +40,7 @@ fn scan(alloc: Global, line: &[char]) -> Result<Words, AllocError>
     ensures { IfOk result (λ found. Cuts false 0 line.now found.tokens.items found.fault) }
 {
     let mut tokens = Vec::new(alloc);
-    let mut named = false;
+    let mut is_after_name = false;
     let mut at = 0;
     while at < line.len() {
         let c = line[at];
@@ -51,9 +51,9 @@ fn scan(alloc: Global, line: &[char]) -> Result<Words, AllocError>
         if is_blank(c) {
             at += 1;
         } else {
-            match next_step(alloc, named, line, at)? {
+            match next_step(alloc, is_after_name, line, at)? {
                 Step::Token(token) => {
-                    named = is_name(&token.token);
+                    is_after_name = is_name(&token.token);
                     at = token.to as usize;
                     tokens.push(token)?;
                 }

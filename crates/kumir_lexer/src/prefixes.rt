@@ -56,11 +56,12 @@ fn is_plus_or_minus(c: char) -> bool
     c == '+' || c == '-'
 }
 
-/// Whether a word begins with this character, where `named` says that the token before is a word that is no keyword.
-pub fn begins(named: bool, c: char) -> bool
-    ensures { result ≡ classes.begins named c }
+/// Whether a word begins with this character; `is_after_name` says that the token before is a word that is no
+/// keyword.
+pub fn begins(is_after_name: bool, c: char) -> bool
+    ensures { result ≡ classes.begins is_after_name c }
 {
-    begins_word(c) || (named && is_digit(c))
+    begins_word(c) || (is_after_name && is_digit(c))
 }
 
 pub fn word_len(text: &[char]) -> usize

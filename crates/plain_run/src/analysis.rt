@@ -5,16 +5,11 @@ ghost use Rattle.std.specs.Arc.{arc_value};
 ghost use Rattle.incr_analysis.specs.Full.{Full};
 
 use incr_analysis::{Analyser, Analysis, NeverStop};
-use km_base::{Ledger, Memory, Steps};
+use km_base::{Memory, Steps, Uncounted};
 use margins::Margin;
 use std::alloc::Global;
 use std::sync::Arc;
 use text_versions::Text;
-
-// Work that nobody counts.
-struct Uncounted;
-
-impl Ledger for Uncounted {}
 
 /// The margin of a text, which is its full analysis. The only error is want of memory.
 pub fn margin_of(alloc: Global, text: Arc<Text>) -> Result<Margin, Memory>

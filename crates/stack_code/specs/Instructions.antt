@@ -21,7 +21,7 @@ use Rattle.kumir_meaning.specs.Runs as state
 use Rattle.kumir_names.specs.declared.built_in.BuiltIn.{BuiltIn}
 use Rattle.kumir_names.specs.declared.built_in.BuiltIn.TheVariants.{Div as DivCall, Mod as ModCall, Iabs as AbsCall, Imin as MinCall, Imax as MaxCall}
 use Rattle.kumir_meaning.specs.Operators.{number_of, is_yes, turns_of, text_of, combined, negated, applied}
-use Rattle.kumir_meaning.specs.Store.{Cell, Empty, Has, Holds, cell_of, value_in, read, element, checked, given_back, with_element, elements_in, without_values, fitted}
+use Rattle.kumir_meaning.specs.Store.{Cell, Empty, Has, Holds, cell_of, value_in, read, element, checked, given_back, with_element, elements_in, without_values, fitted, has_room}
 use Rattle.kumir_meaning.specs.Loops.{past}
 use Rattle.kumir_meaning.specs.Algorithms.{table_for}
 use Rattle.stack_code.specs.declared.instruction.CallPlace.{CallPlace}
@@ -74,13 +74,13 @@ applies b n line s = pushes_result (applied b (reverse (take n s.stack))) line s
 abbrev pub makes_table : ℕ → ℕ → Kind → List Bound → ℕ → State → List Value → Event
 makes_table room x kind bounds line s stack =
     if all_ordered bounds
-    then makes_within room (s.used - elements_in (cell_in (s.slots x)) + elements bounds)
+    then makes_within room (s.used - elements_in (cell_in (s.slots x)))
     else Halt (state.Fault line Bounds)
   where
     makes_within : ℕ → ℕ → Event
     makes_within room used =
-        if nat_le used room
-        then Go (record s { pc = s.pc + 1; stack = stack; slots = with_slot s.slots x (Plain (without_values kind bounds)); used = used })
+        if has_room room used (elements bounds)
+        then Go (record s { pc = s.pc + 1; stack = stack; slots = with_slot s.slots x (Plain (without_values kind bounds)); used = used + elements bounds })
         else Halt (state.Fault line Elements)
 
 -- ---- loops
@@ -139,7 +139,7 @@ abbrev pub fills_with_table : ℕ → ParamSlot → Cell → Begun → Result Be
 fills_with_table room p Empty g = Err Unset
 fills_with_table room p (Has v) g = Err Unset
 fills_with_table room p (Holds t) g =
-    if nat_le (g.1 + elements t.bounds) room
+    if has_room room g.1 (elements t.bounds)
     then Ok (with_slot g.0 p.slot (Plain (table_for p.mode t)), g.1 + elements t.bounds)
     else Err Elements
 

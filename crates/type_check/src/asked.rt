@@ -40,10 +40,8 @@ impl Asked {
             return Ok(());
         }
         let name = name.copy(alloc)?;
-        match self.names.insert(name) {
-            Ok(_) => Ok(()),
-            Err(_) => Err(Memory),
-        }
+        self.names.insert(name)?;
+        Ok(())
     }
 
     /// The names.

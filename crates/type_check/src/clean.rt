@@ -12,17 +12,12 @@ ghost use Rattle.type_check.specs.Refused.{IsRefusalOf};
 use crate::first::first_header;
 use crate::margin::{faults_of, mark_faults};
 use crate::refusal::CleanRefusal;
-use km_base::{Ledger, Memory, Steps};
+use km_base::{Memory, Steps, Uncounted};
 use kumir_tree::{Fault, Header, PlacedUnit, Units};
 use sqlite_items::Items;
 use std::alloc::Global;
 use std::marker::Model;
 use type_rules::{Headers, HeadersRead};
-
-// Checks that nobody counts.
-struct Uncounted;
-
-impl Ledger for Uncounted {}
 
 /// A program without a fault: its units are sound and its margin has no mark. Contracts see its units, each with its
 /// first line.

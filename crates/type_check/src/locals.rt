@@ -56,9 +56,7 @@ impl Locals {
             return Ok(true);
         }
         let name = name.copy(alloc)?;
-        match self.variables.insert(name, variable) {
-            Ok(_) => Ok(false),
-            Err(_) => Err(Memory),
-        }
+        self.variables.insert(name, variable)?;
+        Ok(false)
     }
 }

@@ -137,9 +137,7 @@ fn pairs_of(alloc: Global, faults: &[Fault]) -> Result<Vec<(u32, u16)>, Memory>
 {
     let mut pairs = Vec::new(alloc);
     for fault in faults {
-        if pairs.push((fault.line, fault.code)).is_err() {
-            return Err(Memory);
-        }
+        pairs.push((fault.line, fault.code))?;
     }
     Ok(pairs)
 }
