@@ -183,7 +183,12 @@ fn behind(line: &[char], at: usize) -> &[char]
 }
 
 /// What stands at a place of the line that is neither blank nor in a comment.
-pub fn next_step(alloc: Global, is_after_name: bool, line: &[char], at: usize) -> Result<Step, AllocError>
+pub fn next_step(
+    alloc: Global,
+    is_after_name: bool,
+    line: &[char],
+    at: usize,
+) -> Result<Step, AllocError>
     requires inside { at < length line.now }
     requires size { length line.now < 4294967295 }
     ensures { IfOk result (IsStep is_after_name line.now at) }
