@@ -41,10 +41,10 @@ use Rattle.kumir_compiler.proofs.Reach.{here, Reaches, on_go, on_halt, on_fine, 
 use Rattle.kumir_compiler.proofs.Operands.{onto, taken_onto, drop_onto, numbers_onto}
 use Rattle.kumir_compiler.proofs.Evaluates.{GoesOn, line}
 use Rattle.kumir_compiler.proofs.PassedToPlaces.{all_pushed}
-use Rattle.kumir_compiler.proofs.Arguments.{with_answer, EnterOk}
-use Rattle.kumir_compiler.proofs.Expressions.{site, spot_of}
+use Rattle.kumir_compiler.proofs.ArgumentsMean.{with_answer, EnterOk}
+use Rattle.kumir_compiler.proofs.ExpressionsMean.{site, spot_of}
 use Rattle.kumir_compiler.proofs.SimpleStatements.{Serves, claims_ok, limits_ok}
-use Rattle.kumir_compiler.proofs.Statements.{block_ok}
+use Rattle.kumir_compiler.proofs.StatementsMean.{block_ok}
 use Rattle.kumir_compiler.proofs.ReceivedParameters.{AllAmong, received, all_taken, all_back, used_back}
 
 -- ---- formal bounds, `дано` and `надо`

@@ -34,9 +34,9 @@ use Rattle.kumir_compiler.proofs.Reach.{here, Reaches, Follows, on_go, on_halt, 
 use Rattle.kumir_compiler.proofs.Operands.{onto, drop_onto, numbers_onto}
 use Rattle.kumir_compiler.proofs.Evaluates.{GoesOn, line}
 use Rattle.kumir_compiler.proofs.PassedToPlaces.{all_keep}
-use Rattle.kumir_compiler.proofs.Arguments.{with_answer, EnterOk, enters_ok}
+use Rattle.kumir_compiler.proofs.ArgumentsMean.{with_answer, EnterOk, enters_ok}
 use Rattle.kumir_compiler.proofs.SettledPlaces.{settled_ok, settled_err}
-use Rattle.kumir_compiler.proofs.Expressions.{site, spot_of, tree_ok, trees_ok, arguments_ok}
+use Rattle.kumir_compiler.proofs.ExpressionsMean.{site, spot_of, tree_ok, trees_ok, arguments_ok}
 
 -- the place of a target by its indexes, and how many there are
 abbrev pub aim : Place → List Value → Spot

@@ -34,7 +34,7 @@ use Rattle.kumir_compiler.proofs.Reach.{here, Reaches, moved, on_gives}
 use Rattle.kumir_compiler.proofs.Operands.{onto, drop_onto, numbers_onto}
 use Rattle.kumir_compiler.proofs.Evaluates.{Evaluates, EvaluatesAll, line, pushes, loads, negates, denies, combines, disjoins, conjoins, no_values, more_values, elements_of, applies_to, tests}
 use Rattle.kumir_compiler.proofs.PassedToPlaces.{Indexed, SpotAt, Matches, matches_more, MatchAll, pushed, all_pushed, onto_both, all_keep}
-use Rattle.kumir_compiler.proofs.Arguments.{with_answer, EnterOk, fixes_element, enters_ok, loads_kept, kept_length}
+use Rattle.kumir_compiler.proofs.ArgumentsMean.{with_answer, EnterOk, fixes_element, enters_ok, loads_kept, kept_length}
 
 module _ (al : Allowed) (p : Program) (cs : List CodeUnit) (u : ℕ) (fr : List Frame) (enter : Enter) (names : List CellName) (answer : Option Kind) (first : ℕ) where
   abbrev pub site : ℕ → Names → Site

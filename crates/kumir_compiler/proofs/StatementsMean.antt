@@ -28,10 +28,10 @@ use Rattle.kumir_compiler.proofs.CodeAt.{IsCodeAt, parts, spans}
 use Rattle.kumir_compiler.proofs.SlotsHoldCells.{Same, grown}
 use Rattle.kumir_compiler.proofs.Reach.{here, Reaches, on_go, on_halt, on_step, moved}
 use Rattle.kumir_compiler.proofs.Evaluates.{GoesOn, line}
-use Rattle.kumir_compiler.proofs.Arguments.{EnterOk, enter_fewer}
-use Rattle.kumir_compiler.proofs.Expressions.{site, spot_of, tree_ok}
+use Rattle.kumir_compiler.proofs.ArgumentsMean.{EnterOk, enter_fewer}
+use Rattle.kumir_compiler.proofs.ExpressionsMean.{site, spot_of, tree_ok}
 use Rattle.kumir_compiler.proofs.SimpleStatements.{assigns_ok, inputs_ok, outputs_ok, claims_ok, establishes_ok, invokes_ok}
-use Rattle.kumir_compiler.proofs.Loops.{Acts, while_ok, forever_ok, until_ok, turns_ok, counts_ok, choice_ok}
+use Rattle.kumir_compiler.proofs.LoopsMean.{Acts, while_ok, forever_ok, until_ok, turns_ok, counts_ok, choice_ok}
 
 module _ (al : Allowed) (p : Program) (cs : List CodeUnit) (u : ℕ) (fr : List Frame) (enter : Enter) (names : List CellName) (answer : Option Kind) (first : ℕ) where
   abbrev Lines : List CodeLine
