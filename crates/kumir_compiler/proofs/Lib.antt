@@ -23,3 +23,4 @@ pub mod CodePieces
 pub mod LinesFit
 pub mod ShapesByKinds
 pub mod TreesFit
+pub mod PartsFit
