@@ -24,3 +24,4 @@ pub mod LinesFit
 pub mod ShapesByKinds
 pub mod TreesFit
 pub mod PartsFit
+pub mod StatementsFit
