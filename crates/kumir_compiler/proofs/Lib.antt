@@ -25,3 +25,5 @@ pub mod ShapesByKinds
 pub mod TreesFit
 pub mod PartsFit
 pub mod StatementsFit
+pub mod ValidUnits
+pub mod ValidCode

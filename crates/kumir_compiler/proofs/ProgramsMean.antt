@@ -165,7 +165,7 @@ algorithm_last : (o : Option Placed) (a : Placed) → option_map Called o ≡ So
 algorithm_last None a e = absurd (let none : ⊥ = cc in none)
 algorithm_last (Some b) a e = cc
 
-is_found : (p : Program) (f : List ℕ) (a : Placed) → callee_in p f ≡ Some (Called a) → algorithm_named own_name f p.algorithms ≡ Some a
+pub is_found : (p : Program) (f : List ℕ) (a : Placed) → callee_in p f ≡ Some (Called a) → algorithm_named own_name f p.algorithms ≡ Some a
 unfolding callee
 is_found p f a e =
     algorithm_last (algorithm_named own_name f p.algorithms) a

@@ -10,8 +10,9 @@ use Rattle.kumir_meaning.specs.OrderRun.{adding}
 use Rattle.kumir_meaning.specs.CallsRun.{swapping}
 use Rattle.kumir_meaning.specs.Runs.{IsPrefix}
 use Rattle.stack_code.specs.CodeRuns.{CodeRun}
+use Rattle.stack_code.specs.Validity.{IsValid}
 use Rattle.type_check.specs.Margin.{program_faults}
-use Rattle.kumir_compiler.specs.Code.{code_of}
+use Rattle.kumir_compiler.specs.Code.{code_of, entry_of}
 use Rattle.kumir_compiler.specs.Compilable.{IsCompilable}
 
 -- on all inputs and replies and within each number of steps the code runs as the program means, from the first algorithm on
@@ -31,3 +32,8 @@ SamplesAreCompilable = IsCompilable adding × IsCompilable swapping
 -- the premise holds of the program of all sound units without a fault
 abbrev pub FaultlessIsCompilable : Type 0
 FaultlessIsCompilable = (units : List (ℕ × Known)) → IsSound units → program_faults units ≡ [] → IsCompilable (program_of units)
+
+-- the code of the program of all sound units without a fault is valid, and begins with the first algorithm, where that has no parameters
+abbrev pub FaultlessCodeIsValid : Type 0
+FaultlessCodeIsValid =
+    (units : List (ℕ × Known)) → IsSound units → program_faults units ≡ [] → IsValid (code_of (program_of units)) (entry_of (program_of units))
