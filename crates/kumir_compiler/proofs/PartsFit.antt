@@ -21,7 +21,7 @@ use Rattle.stack_code.specs.declared.unit.Shape.TheVariants.{Scalar, Table}
 use Rattle.stack_code.specs.declared.unit.CodeUnit.{CodeUnit}
 use Rattle.stack_code.specs.Operands.{Kinds, pop_numbers}
 use Rattle.stack_code.specs.Validity.{is_hidden, is_scalar_of}
-use Rattle.type_check.specs.Kinds.{Among, Argument, is_kind, all_whole, arguments_fit, are_numbers, command_fits, element_kind, kind_of, arguments}
+use Rattle.type_check.specs.Kinds.{Among, Argument, is_kind, arguments_fit, are_numbers, command_fits, element_kind, kind_of, arguments}
 use Rattle.type_check.specs.Parts as checked
 use Rattle.type_check.specs.Parts.{tables_fit, declares_fit, bounds_fit, scalar_kind, places_fit, shown_fits, all_shown_fit, some_whole, call_fits}
 use Rattle.kumir_compiler.specs.Code as site

@@ -14,9 +14,9 @@ use Rattle.kumir_tree.specs.Program as tree
 use Rattle.kumir_tree.specs.Program.{Stmt, Stands, Declare, Assign, Invoke, Times, While, Count, Forever, Until, Choose, Select, Assert, Input, Output, Leave, Quit, Block, done, ◌next◌, Arms, no_arms, arm}
 use Rattle.kumir_tree.specs.Sound.{ActHolds, BlockHolds, ArmsHold, HasDimensions}
 use Rattle.kumir_names.specs.declared.variable.Variable.{Variable}
-use Rattle.kumir_names.specs.Variables.{Names, variable, is_table, scalar, table, declares}
+use Rattle.kumir_names.specs.Variables.{Names, variable, is_table, table, declares}
 use Rattle.kumir_names.specs.Callees.{Callee, Called}
-use Rattle.kumir_meaning.specs.Program.{Placed, Program, callee_in, act_names, stmt_names, block_names, arm_names}
+use Rattle.kumir_meaning.specs.Program.{Placed, Program, callee_in, act_names, block_names, arm_names}
 use Rattle.kumir_meaning.specs.Store.{CellName, TheAnswer, Local}
 use Rattle.stack_code.specs.declared.instruction.Instruction.TheVariants as instruction
 use Rattle.stack_code.specs.declared.unit.Shape.TheVariants.{Scalar, Hidden}

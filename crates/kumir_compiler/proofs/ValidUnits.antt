@@ -26,7 +26,7 @@ use Rattle.stack_code.specs.declared.unit.CodeUnit.{CodeUnit}
 use Rattle.stack_code.specs.Operands.{Kinds}
 use Rattle.stack_code.specs.Validity.{OnLine, IsUnit, is_param, is_answer, is_scalar}
 use Rattle.type_check.specs.Kinds.{Among}
-use Rattle.type_check.specs.Parts.{Pieces, Parameters, Condition, claim_pieces, block_pieces, bounds_fit, some_bounds_fit, formals_fit}
+use Rattle.type_check.specs.Parts.{Pieces, Parameters, Condition, claim_pieces, block_pieces, some_bounds_fit, formals_fit}
 use Rattle.type_check.specs.Checked.{declared_again, behind, faults_from, unit_faults}
 use Rattle.kumir_compiler.specs.Code.{Code, Site, in_checks, on, on_line, slot, position, number_of_unit, placed, header_site, variables_of, answer_of, answer_slot, param_slots, formal_shape, answer_shape, declared_shapes, act_shapes, block_shapes, arm_shapes, shapes_of, all_written_below, limits_code, bounds_code, fits_code, some_claim_code, block_code, algorithm_code, unit_code}
 use Rattle.kumir_compiler.proofs.TypedValues.{both}
