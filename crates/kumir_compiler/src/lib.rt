@@ -4,5 +4,6 @@
 mod laws;
 
 pub use laws::{
-    code_means_the_program, faultless_code_is_valid, faultless_is_compilable, meaning_only_grows, samples_are_compilable,
+    code_means_the_program, faultless_code_is_valid, faultless_is_compilable, meaning_only_grows,
+    samples_are_compilable,
 };
