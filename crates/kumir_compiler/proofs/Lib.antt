@@ -1,4 +1,3 @@
-pub mod UsedHaveSlots
 pub mod CodeAt
 pub mod Variables
 pub mod SlotsHoldCells
