@@ -26,3 +26,4 @@ pub mod PartsFit
 pub mod StatementsFit
 pub mod ValidUnits
 pub mod ValidCode
+pub mod EachRun
