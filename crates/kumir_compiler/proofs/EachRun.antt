@@ -1,5 +1,5 @@
 -- What each step, act, reply and input keeps holds of the run of each program.
-use Rattle.std.proofs.Common.{◌≡◌, ◌≢◌, ℕ, zero, suc, ◌+◌, Bool, true, false, List, [], ◌∷◌, Option, Some, None, Result, Ok, Err}
+use Rattle.std.proofs.Common.{◌≢◌, ℕ, zero, suc, ◌+◌, Bool, true, false, List, [], ◌∷◌, Option, Some, None, Result, Ok, Err}
 use Rattle.std.specs.Prelude.{ℤ, pos, ◌+ℤ◌, nat_lt, cond}
 use Rattle.std.specs.Ordering.{int_eq}
 use Rattle.kumir_tree.specs.declared.kind.Kind.{Kind}

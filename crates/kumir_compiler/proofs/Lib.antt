@@ -27,3 +27,5 @@ pub mod StatementsFit
 pub mod ValidUnits
 pub mod ValidCode
 pub mod EachRun
+pub mod RunsGrow
+pub mod CommandsAnswered
