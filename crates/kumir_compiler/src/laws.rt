@@ -1,8 +1,12 @@
 //! Laws of the code of a program, and of what programs mean, which no code needs to run.
 
-ghost use Rattle.kumir_compiler.specs.Laws.{AwaitsOneReply, CodeMeansTheProgram, CommandsAreAnswered, CommandsTakeSteps, FaultlessCodeIsValid, FaultlessIsCompilable, MeaningOnlyGrows, NoFurtherReplyIsRead, SamplesAreCompilable};
+ghost use Rattle.kumir_compiler.specs.Laws.{CodeMeansTheProgram, FaultlessCodeIsValid};
+ghost use Rattle.kumir_compiler.specs.Laws.{FaultlessIsCompilable, SamplesAreCompilable};
+ghost use Rattle.kumir_compiler.specs.Laws.{MeaningOnlyGrows, NoFurtherReplyIsRead};
+ghost use Rattle.kumir_compiler.specs.Laws.{AwaitsOneReply, CommandsAreAnswered, CommandsTakeSteps};
 
-/// The code of a program runs as the program means, for each number of steps, on all inputs and all replies.
+/// The code of a program runs as the program means, for each number of steps, on all inputs and
+/// all replies.
 pub fn code_means_the_program()
     ensures { CodeMeansTheProgram }
 {}
@@ -17,12 +21,14 @@ pub fn faultless_is_compilable()
     ensures { FaultlessIsCompilable }
 {}
 
-/// The code of each program without a fault is valid; a run begins with the first algorithm, where that has no parameters.
+/// The code of each program without a fault is valid; a run begins with the first algorithm,
+/// where that has no parameters.
 pub fn faultless_code_is_valid()
     ensures { FaultlessCodeIsValid }
 {}
 
-/// A run on less steps and less replies begins the run on more: its acts, its outputs, and its commands to each performer.
+/// What a program does on less steps and less replies begins what it does on more: its acts,
+/// its outputs, and its commands to each performer.
 pub fn meaning_only_grows()
     ensures { MeaningOnlyGrows }
 {}
