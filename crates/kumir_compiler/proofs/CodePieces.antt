@@ -19,15 +19,11 @@ use Rattle.kumir_compiler.proofs.CodeAt.{IsCodeAt, parts, spans}
 use Rattle.kumir_compiler.proofs.KindsAtPlaces.{below, behind_jump, step_kinds, kinds_at, kinds_next}
 
 -- ---- truth values
-pub all_three : (a b c : Bool) → a ≡ true → b ≡ true → c ≡ true → (a && b && c) ≡ true
+all_three : (a b c : Bool) → a ≡ true → b ≡ true → c ≡ true → (a && b && c) ≡ true
 all_three a b c e f g = ap (λ x. x && b && c) e ∙ ap (λ x. x && c) f ∙ g
 
-pub or_left : (a b : Bool) → a ≡ true → (a || b) ≡ true
+or_left : (a b : Bool) → a ≡ true → (a || b) ≡ true
 or_left a b e = ap (λ x. x || b) e
-
-pub or_right : (a b : Bool) → b ≡ true → (a || b) ≡ true
-or_right true b e = refl
-or_right false b e = e
 
 pub some_is : {T : Type 0} (x y : T) → Some x ≡ Some y → x ≡ y
 some_is x y e = cc
@@ -37,9 +33,6 @@ is_less a b lt = grind (arith, nat_tests, lt)
 
 is_not_less : (a b : ℕ) → b ≤ a → nat_lt a b ≡ false
 is_not_less a b le = grind (arith, nat_tests, le)
-
-line_of : Instruction → CodeLine
-line_of i = record { line = 0; what = i }
 
 -- an instruction that goes on to the next place alone, and is no call
 pub record IsPlain (i : Instruction) : Type 0 where
@@ -79,7 +72,7 @@ module _ (units : List CodeUnit) (u : CodeUnit) where
   Acts c after ks out = (at end : ℕ) → IsCodeAt u.body at c end → Known at ks → Known end out × (Lands end → IsExit (end + after) → Lands at × AreFine at end)
 
   -- ---- lines
-  pub none_fine : (at end : ℕ) → at ≡ end → AreFine at end
+  none_fine : (at end : ℕ) → at ≡ end → AreFine at end
   none_fine at end e pc l le lt there = absurd (omega (arith, e, le, lt))
 
   pub both_fine : (at mid end : ℕ) → AreFine at mid → AreFine mid end → AreFine at end

@@ -35,11 +35,11 @@ pub both_empty : {X : Type 0} (xs ys : List X) → xs ++ ys ≡ [] → (xs ≡ [
 both_empty [] ys e = (refl, e)
 both_empty (x ∷ xs) ys e = absurd (let wrong : ⊥ = cc in wrong)
 
-pub map_empty : {X Y : Type 0} (f : X → Y) (xs : List X) → map f xs ≡ [] → xs ≡ []
+map_empty : {X Y : Type 0} (f : X → Y) (xs : List X) → map f xs ≡ [] → xs ≡ []
 map_empty f [] e = refl
 map_empty f (x ∷ xs) e = absurd (let wrong : ⊥ = cc in wrong)
 
-pub no_fault_on : (line : ℕ) (o : Option ℕ) → fault_on line o ≡ [] → o ≡ None
+no_fault_on : (line : ℕ) (o : Option ℕ) → fault_on line o ≡ [] → o ≡ None
 no_fault_on line None e = refl
 no_fault_on line (Some code) e = absurd (let wrong : ⊥ = cc in wrong)
 
@@ -255,7 +255,7 @@ module _ (L : ℕ → Type 0) (B : Limits → Type 0) (p : Program) (gives : Opt
         let q = arms_ok arms (site.behind t (block_names b)) r.1.0 more rest (at.0, at.1, r.1.1) holds.2 r.1.2 go in
         ((kind_at (site.on_line t line) names at kind.Truth e w.1, r.0, q.0), further t.locals (block_names b) (arm_names arms) more q.1)
 
-  pub claim_ok : (c : Option (ℕ × Tree)) (t : Site) (names : Names) (more : Pieces) → At t names → faults_from find gives names (claim_pieces c ++ more) ≡ [] → IsSomeClaim c t × (faults_from find gives names more ≡ [])
+  claim_ok : (c : Option (ℕ × Tree)) (t : Site) (names : Names) (more : Pieces) → At t names → faults_from find gives names (claim_pieces c ++ more) ≡ [] → IsSomeClaim c t × (faults_from find gives names more ≡ [])
   claim_ok None t names more at f = (tt, f)
   claim_ok (Some c) t names more at f =
       let w = one_piece names c.0 (Condition c.1) more f in

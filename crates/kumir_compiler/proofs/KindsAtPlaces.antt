@@ -100,7 +100,7 @@ module _ (units : List CodeUnit) (u : CodeUnit) where
   abbrev pub step_kinds : Instruction → Kinds → Option Kinds
   step_kinds i ks = if falls_through i then kinds_after units u i ks else behind_jump i ks
 
-  abbrev pub line_kinds : Option CodeLine → Option Kinds → Option Kinds
+  abbrev line_kinds : Option CodeLine → Option Kinds → Option Kinds
   line_kinds None o = None
   line_kinds (Some l) None = None
   line_kinds (Some l) (Some ks) = step_kinds l.what ks
@@ -128,7 +128,7 @@ module _ (units : List CodeUnit) (u : CodeUnit) where
   same_more : (ks : Kinds) → AtMost (Some ks) (length ks + 1)
   same_more ks = omega arith
 
-  pub one_more : (i : Instruction) (ks : Kinds) → AtMost (step_kinds i ks) (length ks + 1)
+  one_more : (i : Instruction) (ks : Kinds) → AtMost (step_kinds i ks) (length ks + 1)
   one_more (Push v) ks = omega arith
   one_more Drop ks = more (pop_any ks) (length ks) (length ks + 1) (omega arith) (pop_any_less ks)
   one_more (Load x) ks = push_some_more (value_kind (slice_get u.slots x)) (Some ks) (length ks) (omega arith)

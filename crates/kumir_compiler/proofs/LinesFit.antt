@@ -36,7 +36,7 @@ pub twice_more : (n : ℕ) (ks : Kinds) → twice n (kind.Whole ∷ kind.Whole �
 twice_more zero ks = refl
 twice_more (suc n) ks = ap (λ l. kind.Whole ∷ kind.Whole ∷ l) (twice_more n ks)
 
-pub twice_many : (n : ℕ) (ks : Kinds) → twice n ks ≡ many (2 * n) ks
+twice_many : (n : ℕ) (ks : Kinds) → twice n ks ≡ many (2 * n) ks
 twice_many zero ks = refl
 twice_many (suc n) ks = ap (λ l. kind.Whole ∷ kind.Whole ∷ l) (twice_many n ks) ∙ (let e : suc (suc (2 * n)) ≡ 2 * suc n = omega arith in ap (λ m. many m ks) e)
 
@@ -87,13 +87,13 @@ module _ (units : List CodeUnit) (u : CodeUnit) (t : Site) where
   pub load : (x : ℕ) (k : Kind) (ks : Kinds) → Slot x (Scalar k) → Goes units u (on t (instruction.Load x) ∷ []) ks (k ∷ ks)
   load x k ks e = plain units u t (instruction.Load x) ks (k ∷ ks) (plain_load x) (ap (λ o. push_some (value_kind o) (Some ks)) e) (ap (λ o. is_scalar o || is_hidden o) e)
 
-  pub load_hidden : (x : ℕ) (ks : Kinds) → Slot x Hidden → Goes units u (on t (instruction.Load x) ∷ []) ks (kind.Whole ∷ ks)
+  load_hidden : (x : ℕ) (ks : Kinds) → Slot x Hidden → Goes units u (on t (instruction.Load x) ∷ []) ks (kind.Whole ∷ ks)
   load_hidden x ks e = plain units u t (instruction.Load x) ks (kind.Whole ∷ ks) (plain_load x) (ap (λ o. push_some (value_kind o) (Some ks)) e) (ap (λ o. is_scalar o || is_hidden o) e)
 
   pub store : (x : ℕ) (k : Kind) (ks : Kinds) → Slot x (Scalar k) → Goes units u (on t (instruction.Store x) ∷ []) (k ∷ ks) ks
   store x k ks e = plain units u t (instruction.Store x) (k ∷ ks) ks (plain_store x) (ap (λ o. pop_some (value_kind o) (k ∷ ks)) e ∙ pop_it k ks) (ap (λ o. is_scalar o || is_hidden o) e)
 
-  pub store_hidden : (x : ℕ) (ks : Kinds) → Slot x Hidden → Goes units u (on t (instruction.Store x) ∷ []) (kind.Whole ∷ ks) ks
+  store_hidden : (x : ℕ) (ks : Kinds) → Slot x Hidden → Goes units u (on t (instruction.Store x) ∷ []) (kind.Whole ∷ ks) ks
   store_hidden x ks e = plain units u t (instruction.Store x) (kind.Whole ∷ ks) ks (plain_store x) (ap (λ o. pop_some (value_kind o) (kind.Whole ∷ ks)) e) (ap (λ o. is_scalar o || is_hidden o) e)
 
   pub clear : (x : ℕ) (k : Kind) (ks : Kinds) → Slot x (Scalar k) → Goes units u (on t (instruction.Clear x) ∷ []) ks ks

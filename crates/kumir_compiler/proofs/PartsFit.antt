@@ -33,12 +33,12 @@ use Rattle.kumir_compiler.proofs.LinesFit.{many, twice, popped, store, put_elem,
 use Rattle.kumir_compiler.proofs.ShapesByKinds.{kind_where_is, is_kind_is, element_is, scalar_is, shape_of, is_some_kind}
 use Rattle.kumir_compiler.proofs.TreesFit.{with_kind, Around, entered, numbers_are, tree_goes, trees_go, arguments_go, limits_go, local_table}
 
-abbrev pub aimed : Place → Kinds → Kinds
+abbrev aimed : Place → Kinds → Kinds
 aimed ToAnswer ks = ks
 aimed (ToScalar x) ks = ks
 aimed (ToElement x es) ks = many (count es) ks
 
-pub scalar_kind_is : (o : Option Variable) (k : Kind) → scalar_kind o ≡ Some k → (v : Variable) × (o ≡ Some v) × (shape_of v ≡ Scalar k)
+scalar_kind_is : (o : Option Variable) (k : Kind) → scalar_kind o ≡ Some k → (v : Variable) × (o ≡ Some v) × (shape_of v ≡ Scalar k)
 scalar_kind_is None k e = absurd (let wrong : ⊥ = cc in wrong)
 scalar_kind_is (Some v) k e = (v, refl, scalar_is v k e)
 
@@ -53,7 +53,7 @@ HaveBounds (Scalars k xs) = Unit {0}
 HaveBounds (Tables k xs) = AllByRecursion (λ x. is_table (table k x).1 ≡ true) xs
 
 module _ (units : List CodeUnit) (u : CodeUnit) (s : Among) (t : Site) (around : Around units u s t) where
-  pub local_number : (x : List ℕ) (k : Kind) → scalar_kind (variable s.names x) ≡ Some k → slice_get u.slots (slot t (Local x)) ≡ Some (Scalar k)
+  local_number : (x : List ℕ) (k : Kind) → scalar_kind (variable s.names x) ≡ Some k → slice_get u.slots (slot t (Local x)) ≡ Some (Scalar k)
   local_number x k h = let w = scalar_kind_is (variable s.names x) k h in around.shapes x w.0 w.1 ∙ ap Some w.2
 
   aim_goes : (x : Place) (d : ℕ) (k : Kind) → checked.place_kind s x ≡ Some k → (ks : Kinds) → Goes units u (aim_code x t d) ks (aimed x ks)

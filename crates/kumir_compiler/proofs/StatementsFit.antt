@@ -37,7 +37,7 @@ use Rattle.kumir_compiler.proofs.PartsFit.{Shaped, HaveBounds, assign_goes, clai
 
 -- ---- variables among others
 
-pub found_before : (names later : Names) (x : List ℕ) (v : Variable) → variable names x ≡ Some v → variable (names ++ later) x ≡ Some v
+found_before : (names later : Names) (x : List ℕ) (v : Variable) → variable names x ≡ Some v → variable (names ++ later) x ≡ Some v
 found_before [] later x v e = absurd (let wrong : ⊥ = cc in wrong)
 found_before (n ∷ names) later x v e = go (pointwise nat_eq x n.0) (found_before names later x v) e
   where
@@ -109,7 +109,7 @@ module _ (units : List CodeUnit) (u : CodeUnit) (p : Program) (gives : Option Ki
   }
 
   -- the local names go on by these, and the pieces that follow have no fault
-  abbrev pub GoesOn : Names → Names → Names → Pieces → Type 0
+  abbrev GoesOn : Names → Names → Names → Pieces → Type 0
   GoesOn before here later more = (new : Names) × (before ++ here ≡ new) × (new ++ later ≡ full) × (faults_from find gives new more ≡ [])
 
   further : (ls a b : Names) (later : Names) (more : Pieces) → GoesOn (ls ++ a) b later more → GoesOn ls (a ++ b) later more
@@ -135,14 +135,14 @@ module _ (units : List CodeUnit) (u : CodeUnit) (p : Program) (gives : Option Ki
   bounded (Scalars k xs) holds = tt
   bounded (Tables k xs) holds = tables_bounded k xs holds
 
-  pub piece : (names : Names) (line : ℕ) (part : Part) (more : Pieces) → faults_from find gives names ((line, part) ∷ more) ≡ []
+  piece : (names : Names) (line : ℕ) (part : Part) (more : Pieces) → faults_from find gives names ((line, part) ∷ more) ≡ []
       → (declared_again names (declared_by part) ≡ false) × (checked.fits (among (at_piece names part)) part ≡ true) × (faults_from find gives (behind names part) more ≡ [])
   piece names line part more f = one_piece L HasDimensions p gives find calls names line part more f
 
   cut : (names : Names) (a b c : Pieces) → faults_from find gives names (a ++ b ++ c) ≡ [] → faults_from find gives names (a ++ (b ++ c)) ≡ []
   cut names a b c e = split L HasDimensions p gives find calls names a b c e
 
-  pub condition : (t : Site) (names later : Names) (e : Tree) (d : ℕ) → names ++ later ≡ full → Here t names → is_kind kind.Truth (kind_of (among names) e) ≡ true → Goes units u (tree_code e t d) [] (kind.Truth ∷ [])
+  condition : (t : Site) (names later : Names) (e : Tree) (d : ℕ) → names ++ later ≡ full → Here t names → is_kind kind.Truth (kind_of (among names) e) ≡ true → Goes units u (tree_code e t d) [] (kind.Truth ∷ [])
   condition t names later e d is at h = tree_goes units u (among names) t (around t names later is at) e d kind.Truth (is_kind_is kind.Truth (kind_of (among names) e) h) []
 
   -- a condition, and one of two ways

@@ -30,8 +30,8 @@ use Rattle.stack_code.specs.declared.unit.Shape.TheVariants.{Scalar, Table}
 use Rattle.stack_code.specs.declared.unit.ParamSlot.{ParamSlot}
 use Rattle.stack_code.specs.declared.unit.CodeUnit.{CodeUnit}
 use Rattle.stack_code.specs.Instructions.{takes_value, unit_at, unit_or}
-use Rattle.stack_code.specs.Operands.{Kinds, pop_some, then_pop, push_some, value_kind, pop_values, push_answer, kinds_after}
-use Rattle.stack_code.specs.Validity.{is_scalar_of, is_table_of, is_hidden, is_place_of, place_fits, places_fit, call_fits, names_fit}
+use Rattle.stack_code.specs.Operands.{Kinds, pop_some, then_pop, push_some, value_kind, pop_values, push_answer}
+use Rattle.stack_code.specs.Validity.{is_scalar_of, is_table_of, is_hidden, is_place_of, place_fits, places_fit, call_fits}
 use Rattle.type_check.specs.Kinds as kinds
 use Rattle.type_check.specs.Kinds.{Among, Argument, is_kind, kind_where, binary_kind, all_whole, table_fits, argument_fits, argument_fits_at, arguments_fit, are_numbers, answer_kind, name_kind, named_kind, variable_kind, called_kind, element_kind, call_kind, is_place, whole_table, kind_of, form_kind, arguments}
 use Rattle.type_check.specs.Parts.{bounds_fit}
@@ -67,13 +67,13 @@ pub record IsCallee (units : List CodeUnit) (n : ℕ) (a : Placed) : Type 0 wher
   pub gives : GivesBack unit a.algorithm.head.gives unit.gives
 
 -- the kinds behind the values of a parameter, and of all
-abbrev pub passed : Option Limits → Mode → Kind → Kinds → Kinds
+abbrev passed : Option Limits → Mode → Kind → Kinds → Kinds
 passed (Some limits) mode k ks = ks
 passed None Arg k ks = k ∷ ks
 passed None Res k ks = ks
 passed None ArgRes k ks = k ∷ ks
 
-abbrev pub all_passed : List Formal → Kinds → Kinds
+abbrev all_passed : List Formal → Kinds → Kinds
 all_passed [] ks = ks
 all_passed (p ∷ params) ks = all_passed params (passed p.bounds p.mode p.kind ks)
 
@@ -123,9 +123,6 @@ module _ (units : List CodeUnit) (u : CodeUnit) (s : Among) (t : Site) (around :
   call_kind_is (Some v) found args k e = absurd (let wrong : ⊥ = cc in wrong)
 
   -- ---- operators
-  op_plain : (i : Instruction) (ks out : Kinds) → IsPlain i → kinds_after units u i ks ≡ Some out → names_fit units u i ≡ true → Goes units u (on t i ∷ []) ks out
-  op_plain i ks out is e f = plain units u t i ks out is e f
-
   of_two_code : (i : Instruction) (a b : Code) (j k m : Kind) (ks : Kinds) → Goes units u a ks (j ∷ ks) → Goes units u b (j ∷ ks) (k ∷ j ∷ ks) → Goes units u (on t i ∷ []) (k ∷ j ∷ ks) (m ∷ ks) → Goes units u (a ++ (b ++ (on t i ∷ []))) ks (m ∷ ks)
   of_two_code i a b j k m ks f g h = joined units u a (b ++ (on t i ∷ [])) ks (j ∷ ks) (m ∷ ks) f (joined units u b (on t i ∷ []) (j ∷ ks) (k ∷ j ∷ ks) (m ∷ ks) g h)
 
@@ -342,7 +339,7 @@ module _ (units : List CodeUnit) (u : CodeUnit) (s : Among) (t : Site) (around :
       ∙ answered c.unit a.algorithm.head.gives c.unit.gives ks c.gives)
       (ap (λ o. call_fits o u.slots places) c.there ∙ places_ok c.unit es params c.unit.params d at m c.params fits st))
 
-  pub ask_plain : (c : CommandShape) → IsPlain (instruction.Ask c)
+  ask_plain : (c : CommandShape) → IsPlain (instruction.Ask c)
   ask_plain c = record { goes_on = refl; no_target = refl; no_call = refl }
 
   ask_test : (c : RobotCommand) (ks : Kinds) → is_test c ≡ true → Goes units u (on t instruction.Step ∷ on t (instruction.Ask (command.Robot c)) ∷ []) ks (kind.Truth ∷ ks)

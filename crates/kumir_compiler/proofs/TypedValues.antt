@@ -86,7 +86,7 @@ no_arguments Iabs e = cc
 no_arguments Imin e = cc
 no_arguments Imax e = cc
 
-pub missing : (o : Option Kind) (b : Bool) → (not (is_some o) && b) ≡ true → IsMissing o × (b ≡ true)
+missing : (o : Option Kind) (b : Bool) → (not (is_some o) && b) ≡ true → IsMissing o × (b ≡ true)
 missing None b e = (tt, e)
 missing (Some k) b e = absurd (let wrong : ⊥ = cc in wrong)
 
