@@ -21,7 +21,7 @@ use Rattle.stack_code.specs.CodeState.{State, Frame, Slots, numbers, next}
 use Rattle.performer_kit.specs.Commands.{is_test}
 use Rattle.stack_code.specs.Instructions.{On, Over, Asks, pushes_result, operates, applies, event_of, step, unit_at}
 use Rattle.kumir_compiler.specs.Code.{Code, Site, on, jump, jump_no, slot}
-use Rattle.kumir_compiler.proofs.UsedHaveSlots.{is_among}
+use Rattle.kumir_compiler.proofs.Variables.{is_among}
 use Rattle.kumir_compiler.proofs.CodeAt.{IsCodeAt, parts, spans}
 use Rattle.kumir_compiler.proofs.SlotsHoldCells.{Same}
 use Rattle.kumir_compiler.proofs.Reach.{here, Reaches, on_go, on_step, on_asks, on_gives, after_on, line_at, moved}

@@ -31,7 +31,7 @@ use Rattle.kumir_compiler.proofs.TypedValues.{both, is_there, kind_there, same_t
 
 -- ---- no faults
 
-both_empty : {X : Type 0} (xs ys : List X) → xs ++ ys ≡ [] → (xs ≡ []) × (ys ≡ [])
+pub both_empty : {X : Type 0} (xs ys : List X) → xs ++ ys ≡ [] → (xs ≡ []) × (ys ≡ [])
 both_empty [] ys e = (refl, e)
 both_empty (x ∷ xs) ys e = absurd (let wrong : ⊥ = cc in wrong)
 
@@ -49,13 +49,13 @@ no_fault_code false false right e = absurd (let wrong : ⊥ = cc in wrong)
 no_fault_code false true false e = absurd (let wrong : ⊥ = cc in wrong)
 no_fault_code false true true e = (refl, refl)
 
-neither : (a b : Bool) → (a || b) ≡ false → (a ≡ false) × (b ≡ false)
+pub neither : (a b : Bool) → (a || b) ≡ false → (a ≡ false) × (b ≡ false)
 neither true b e = absurd (let wrong : ⊥ = cc in wrong)
 neither false b e = (refl, e)
 
 -- ---- local names
 
-none_again : (names vs : Names) → declared_again names vs ≡ false → with_locals names vs ≡ names ++ vs
+pub none_again : (names vs : Names) → declared_again names vs ≡ false → with_locals names vs ≡ names ++ vs
 none_again names [] e = sym (append-nil names)
 none_again names (v ∷ vs) e =
     let w = neither (is_local names v.0) (declared_again (with_local names v) vs) e in
@@ -152,7 +152,7 @@ module _ (L : ℕ → Type 0) (B : Limits → Type 0) (p : Program) (gives : Opt
   -- ---- pieces
 
   -- a piece without a fault, and those behind it
-  one_piece : (names : Names) (line : ℕ) (part : Part) (more : Pieces) → faults_from find gives names ((line, part) ∷ more) ≡ []
+  pub one_piece : (names : Names) (line : ℕ) (part : Part) (more : Pieces) → faults_from find gives names ((line, part) ∷ more) ≡ []
       → (declared_again names (declared_by part) ≡ false) × (fits (among (at_piece names part)) part ≡ true) × (faults_from find gives (behind names part) more ≡ [])
   one_piece names line part more e =
       let w = both_empty (fault_on line (part_fault find gives names part)) (faults_from find gives (behind names part) more) e in
@@ -169,7 +169,7 @@ module _ (L : ℕ → Type 0) (B : Limits → Type 0) (p : Program) (gives : Opt
   no_more : (ls : Names) (names : Names) (more : Pieces) → ls ≡ names → faults_from find gives names more ≡ [] → Goes ls [] more
   no_more ls names more e f = (names, append-nil ls ∙ e, f)
 
-  split : (names : Names) (a b c : Pieces) → faults_from find gives names (a ++ b ++ c) ≡ [] → faults_from find gives names (a ++ (b ++ c)) ≡ []
+  pub split : (names : Names) (a b c : Pieces) → faults_from find gives names (a ++ b ++ c) ≡ [] → faults_from find gives names (a ++ (b ++ c)) ≡ []
   split names a b c e = subst (λ ps. faults_from find gives names ps ≡ []) (append_assoc a b c) e
 
   declared : (t : Site) (names : Names) (d : Declares) → At t names → declared_again names (declares d) ≡ false → t.locals ++ declares d ≡ with_locals names (declares d)
@@ -283,11 +283,11 @@ algorithm_ok p find calls L B a holds f =
 
 -- ---- units
 
-abbrev on_lines : ℕ × Known → ℕ → Type 0
+abbrev pub on_lines : ℕ × Known → ℕ → Type 0
 on_lines u line = u.0 + line ≤ 4294967295
 
 -- a unit whose algorithm was read
-abbrev IsGrown : ℕ × Known → Type 0
+abbrev pub IsGrown : ℕ × Known → Type 0
 IsGrown u = (a : Algorithm) × (u.1.ending ≡ Grown a) × (u.1.head ≡ Some a.head) × BlockHolds (on_lines u) HasDimensions a.body
 
 module _ (find : List ℕ → Option (Callee Head)) where
@@ -297,20 +297,20 @@ module _ (find : List ℕ → Option (Callee Head)) where
   grown_ending L B head Prelude ends holds f = absurd ends
   grown_ending L B head (Faulty faults) ends holds f = absurd (ends f)
 
-  own : (u : ℕ × Known) (units : List (ℕ × Known)) → all_placed_faults find (u ∷ units) ≡ [] → (own_faults find u.1.ending ≡ []) × (all_placed_faults find units ≡ [])
+  pub own : (u : ℕ × Known) (units : List (ℕ × Known)) → all_placed_faults find (u ∷ units) ≡ [] → (own_faults find u.1.ending ≡ []) × (all_placed_faults find units ≡ [])
   own u units f =
       let w = both_empty (placed_faults find u) (all_placed_faults find units) f in
       let v = both_empty (map (on_line u.0) (own_faults find u.1.ending)) (map (on_line u.0) u.1.unknown) w.0 in
       (map_empty (on_line u.0) (own_faults find u.1.ending) v.0, w.1)
 
-  all_grown : (units : List (ℕ × Known)) → AllByRecursion (λ u. IsUnitRead u.1 × IsPlaced u) units → all_placed_faults find units ≡ [] → AllByRecursion IsGrown units
+  pub all_grown : (units : List (ℕ × Known)) → AllByRecursion (λ u. IsUnitRead u.1 × IsPlaced u) units → all_placed_faults find units ≡ [] → AllByRecursion IsGrown units
   all_grown [] sound f = _
   all_grown (u ∷ units) sound f = let w = own u units f in (grown_ending (on_lines u) HasDimensions u.1.head u.1.ending sound.0.0.0 sound.0.1.1.2 w.0, all_grown units sound.1 w.1)
 
-abbrev placed_at : ℕ → Algorithm → Placed
+abbrev pub placed_at : ℕ → Algorithm → Placed
 placed_at first a = record { first = first; algorithm = a }
 
-grown_is : (u : ℕ × Known) (units : List (ℕ × Known)) (a : Algorithm) → u.1.ending ≡ Grown a → grown (u ∷ units) ≡ placed_at u.0 a ∷ grown units
+pub grown_is : (u : ℕ × Known) (units : List (ℕ × Known)) (a : Algorithm) → u.1.ending ≡ Grown a → grown (u ∷ units) ≡ placed_at u.0 a ∷ grown units
 grown_is u units a e = rw e refl
 
 all_compilable : (p : Program) (find : List ℕ → Option (Callee Head)) → ((x : List ℕ) → find x ≡ in_checks (callee_in p x)) → (units : List (ℕ × Known)) → AllByRecursion IsGrown units → all_placed_faults find units ≡ [] → AreCompilable p (grown units)
@@ -337,7 +337,7 @@ one_counted first c (Some g) h e f =
 abbrev with_heads : Callees → List Head → Callees
 with_heads c heads = record { performers = c.performers; heads = c.heads ++ heads }
 
-all_count : (c : Callees) (units : List (ℕ × Known)) → AllByRecursion IsGrown units → all_faults c units ≡ [] → all_counted c units ≡ with_heads c (map head_of (grown units))
+pub all_count : (c : Callees) (units : List (ℕ × Known)) → AllByRecursion IsGrown units → all_faults c units ≡ [] → all_counted c units ≡ with_heads c (map head_of (grown units))
 all_count c [] all f = ap (λ l. record { performers = c.performers; heads = l }) (sym (append-nil c.heads))
 all_count c (u ∷ units) all f =
     let a = all.0.0 in
@@ -348,7 +348,7 @@ all_count c (u ∷ units) all f =
     ∙ ap (λ l. record { performers = c.performers; heads = l }) (append_assoc c.heads (a.head ∷ []) (map head_of (grown units)))
     ∙ ap (λ l. with_heads c (map head_of l)) (sym (grown_is u units a all.0.1))
 
-none_counted : (c : Callees) (head : Option Head) → head ≡ None → counted_with c head ≡ c
+pub none_counted : (c : Callees) (head : Option Head) → head ≡ None → counted_with c head ≡ c
 none_counted c None e = refl
 none_counted c (Some h) e = absurd (let wrong : ⊥ = cc in wrong)
 

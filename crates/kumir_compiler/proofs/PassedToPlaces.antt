@@ -13,7 +13,7 @@ use Rattle.stack_code.specs.declared.instruction.CallPlace.{CallPlace}
 use Rattle.stack_code.specs.declared.instruction.CallPlace.TheVariants as place
 use Rattle.stack_code.specs.CodeState.{Slots, Plain}
 use Rattle.kumir_compiler.specs.Code.{position, keeps}
-use Rattle.kumir_compiler.proofs.UsedHaveSlots.{is_among}
+use Rattle.kumir_compiler.proofs.Variables.{is_among}
 use Rattle.kumir_compiler.proofs.Operands.{onto}
 
 -- the indexes stand in these slots, which are among the first D hidden ones behind n variables

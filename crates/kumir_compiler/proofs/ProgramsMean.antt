@@ -32,32 +32,33 @@ use Rattle.stack_code.specs.Instructions as code
 use Rattle.stack_code.specs.Instructions.{Event, Go, Halt, if_fine, values_taken, unit_at, step, Begun}
 use Rattle.stack_code.specs.CodeRuns.{start}
 use Rattle.kumir_compiler.specs.Code.{Site, slot, position, number_of_unit, limits_code, some_claim_code, bounds_code, fits_code, answer_of, variables_of, header_site, algorithm_code, param_slots, answer_slot, unit_code, code_of, block_code}
-use Rattle.kumir_compiler.proofs.UsedHaveSlots.{is_among, AreBounds, AreFormals, IsSomeClaim, IsCompilableAlgorithm, AreCompilable, IsCompilable}
+use Rattle.kumir_compiler.specs.Compilable.{AreBounds, AreFormals, IsSomeClaim, IsCompilableAlgorithm, AreCompilable, IsCompilable}
+use Rattle.kumir_compiler.proofs.LocalsHaveSlots.{Slotted, header_slotted, body_in}
 use Rattle.stack_code.specs.CodeRuns.{CodeRun}
 use Rattle.kumir_compiler.proofs.CodeAt.{IsCodeAt, parts, code_from_start}
-use Rattle.kumir_compiler.proofs.Variables.{same_itself, among_behind}
+use Rattle.kumir_compiler.proofs.Variables.{is_among, same_itself, among_behind}
 use Rattle.kumir_compiler.proofs.SlotsHoldCells.{Same}
 use Rattle.kumir_compiler.proofs.Reach.{here, Reaches, on_go, on_halt, on_fine, line_at, moved}
 use Rattle.kumir_compiler.proofs.Operands.{onto, taken_onto, drop_onto, numbers_onto}
 use Rattle.kumir_compiler.proofs.Evaluates.{GoesOn, line}
 use Rattle.kumir_compiler.proofs.PassedToPlaces.{all_pushed}
-use Rattle.kumir_compiler.proofs.Arguments.{with_answer, EnterOk}
-use Rattle.kumir_compiler.proofs.Expressions.{site, spot_of}
+use Rattle.kumir_compiler.proofs.ArgumentsMean.{with_answer, EnterOk}
+use Rattle.kumir_compiler.proofs.ExpressionsMean.{site, spot_of}
 use Rattle.kumir_compiler.proofs.SimpleStatements.{Serves, claims_ok, limits_ok}
-use Rattle.kumir_compiler.proofs.Statements.{block_ok}
+use Rattle.kumir_compiler.proofs.StatementsMean.{block_ok}
 use Rattle.kumir_compiler.proofs.ReceivedParameters.{AllAmong, received, all_taken, all_back, used_back}
 
 -- ---- formal bounds, `дано` and `надо`
-module _ (al : Allowed) (p : Program) (cs : List CodeUnit) (u : ℕ) (fr : List Frame) (enter : Enter) (names : List CellName) (answer : Option Kind) (first : ℕ) (row : ℕ) (locals : Names) (N : ℕ) (h : Slots) (ok : EnterOk al p cs u fr enter N) where
+module _ (al : Allowed) (p : Program) (cs : List CodeUnit) (u : ℕ) (fr : List Frame) (enter : Enter) (names : List CellName) (answer : Option Kind) (first : ℕ) (row : ℕ) (locals : Names) (N : ℕ) (h : Slots) (ok : EnterOk al p cs u fr enter N) (sc : Slotted names answer locals) where
   abbrev T : Site
   T = site al p cs u fr enter names answer first row locals
 
   abbrev Lines : List CodeLine
   Lines = (unit_at cs u).body
 
-  pub some_claim_ok : (o : Option (ℕ × Tree)) → IsSomeClaim o T → Serves al p cs u fr enter names answer first row locals N 0 h ok (some_claim_code o T) (λ k. some_claim o (spot_of al p cs u fr enter names answer first row locals) k)
+  pub some_claim_ok : (o : Option (ℕ × Tree)) → IsSomeClaim o T → Serves al p cs u fr enter names answer first row locals N 0 h ok sc (some_claim_code o T) (λ k. some_claim o (spot_of al p cs u fr enter names answer first row locals) k)
   some_claim_ok None known pc end s slots stack k has same go = moved al cs u fr N pc end stack slots s.used (k s) has (go s slots same)
-  some_claim_ok (Some c) known pc end s slots stack k has same go = claims_ok al p cs u fr enter names answer first (first + c.0) locals N 0 h ok c.1 known pc end s slots stack k has same go
+  some_claim_ok (Some c) known pc end s slots stack k has same go = claims_ok al p cs u fr enter names answer first (first + c.0) locals N 0 h ok sc c.1 known pc end s slots stack k has same go
 
   bounds_ok : (mode : Mode) (kind : Kind) (name : List ℕ) (o : Option Limits) (params : List Formal) → is_among names (Local name) ≡ true → AreBounds o T → (pc end : ℕ) (s : Store) (slots : Slots) (stack : List Value) (k : Then) → IsCodeAt Lines pc (bounds_code o name T) end → Same names 0 h s slots
       → ((s1 : Store) (slots1 : Slots) → Same names 0 h s1 slots1 → Reaches al cs N (here u fr end stack slots1 s1.used) (fits params (spot_of al p cs u fr enter names answer first row locals) k s1))
@@ -65,7 +66,7 @@ module _ (al : Allowed) (p : Program) (cs : List CodeUnit) (u : ℕ) (fr : List 
   bounds_ok mode kind name None params known limits pc end s slots stack k has same go = moved al cs u fr N pc end stack slots s.used _ has (go s slots same)
   bounds_ok mode kind name (Some limits) params known are pc end s slots stack k has same go =
       let w = parts Lines pc (limits_code limits T 0) _ end has in
-      limits_ok al p cs u fr enter names answer first row locals N 0 h ok limits are pc w.0 s slots stack _ w.1 same
+      limits_ok al p cs u fr enter names answer first row locals N 0 h ok sc limits are pc w.0 s slots stack _ w.1 same
       (λ vs s1 slots1 len same1. on_fine al cs (fitted (s1.cells (Local name)) (paired (numbers_of vs))) N row (λ c. next (here u fr w.0 (onto vs stack) slots1 s1.used) stack) _ (λ c. fits params (spot_of al p cs u fr enter names answer first row locals) k s1)
       (line al cs u fr T N 0 h w.0 (onto vs stack) slots1 s1 _ w.2.0
       ∙ ap (λ c. if_fine (fitted c (paired (numbers (2 * length limits) (onto vs stack)))) row (λ c. next (here u fr w.0 (onto vs stack) slots1 s1.used) (drop (2 * length limits) (onto vs stack)))) (same1.vars (Local name) known)
@@ -73,7 +74,7 @@ module _ (al : Allowed) (p : Program) (cs : List CodeUnit) (u : ℕ) (fr : List 
       ∙ ap (λ l. if_fine (fitted (s1.cells (Local name)) (paired (numbers_of vs))) row (λ c. next (here u fr w.0 (onto vs stack) slots1 s1.used) l)) (drop_onto vs stack (2 * length limits) len))
       (λ c e. moved al cs u fr N _ end stack slots1 s1.used _ w.2.1 (go s1 slots1 same1)))
 
-  pub fits_ok : (params : List Formal) → AllAmong names params → AreFormals params T → Serves al p cs u fr enter names answer first row locals N 0 h ok (fits_code params T) (λ k. fits params (spot_of al p cs u fr enter names answer first row locals) k)
+  pub fits_ok : (params : List Formal) → AllAmong names params → AreFormals params T → Serves al p cs u fr enter names answer first row locals N 0 h ok sc (fits_code params T) (λ k. fits params (spot_of al p cs u fr enter names answer first row locals) k)
   fits_ok [] known are pc end s slots stack k has same go = moved al cs u fr N pc end stack slots s.used (k s) has (go s slots same)
   fits_ok (q ∷ params) known are pc end s slots stack k has same go =
       let w = parts Lines pc (bounds_code q.bounds q.name T) _ end has in
@@ -131,6 +132,7 @@ module _ (al : Allowed) (p : Program) (cs : List CodeUnit) where
       let row = a.first + a.algorithm.head.line in
       let locals = parameters a.algorithm.head.params in
       let names = variables_of a in
+      let sc = header_slotted a in
       let Lines = (unit_at cs u).body in
       let code0 = algorithm_code a t in
       let whole : IsCodeAt Lines 0 code0 (length code0) = subst (λ l. IsCodeAt l 0 code0 (length code0)) (sym (ap (λ q. q.body) is)) (code_from_start code0) in
@@ -139,14 +141,14 @@ module _ (al : Allowed) (p : Program) (cs : List CodeUnit) where
       let w3 = parts Lines w2.0 (block_code a.algorithm.body t 0 0) _ (length code0) w2.2 in
       let w4 = parts Lines w3.0 (some_claim_code a.algorithm.wanted t) _ (length code0) w3.2 in
       let back : GoesOn al cs u fr t N 0 no_slots w3.0 [] (returns a (at_header p al.room enter a) k) =
-      λ s1 slots1 same1. some_claim_ok al p cs u fr enter names a.algorithm.head.gives a.first row locals N no_slots ok a.algorithm.wanted can.wanted w3.0 w4.0 s1 slots1 [] _ w4.1 same1
+      λ s1 slots1 same1. some_claim_ok al p cs u fr enter names a.algorithm.head.gives a.first row locals N no_slots ok sc a.algorithm.wanted can.wanted w3.0 w4.0 s1 slots1 [] _ w4.1 same1
       (λ s2 slots2 same2. returned a.algorithm.head.gives (map (λ l. Local l.0) (parameters a.algorithm.head.params ++ block_names a.algorithm.body)) N (a.first + a.algorithm.close) fr (param_slots a.algorithm.head.params t) s2 slots2 (here u fr w4.0 [] slots2 s2.used) k same2 refl refl t refl
       (line al cs u fr t N 0 no_slots w4.0 [] slots2 s2 _ w4.2.0 ∙ ap (λ q. code.leaves_unit q.gives q.params (a.first + a.algorithm.close) (here u fr w4.0 [] slots2 s2.used)) is)
       (λ v e. go v s2 slots2 (here u fr w4.0 [] slots2 s2.used) same2 e)) in
       let e0 : w3.0 ≡ w3.0 + 0 = omega arith in
-      fits_ok al p cs u fr enter names a.algorithm.head.gives a.first row locals N no_slots ok a.algorithm.head.params (header_params a) can.params 0 w1.0 g gs [] _ w1.1 same
-      (λ s1 slots1 same1. some_claim_ok al p cs u fr enter names a.algorithm.head.gives a.first row locals N no_slots ok a.algorithm.given can.given w1.0 w2.0 s1 slots1 [] _ w2.1 same1
-      (λ s2 slots2 same2. block_ok al p cs u fr enter names a.algorithm.head.gives a.first a.algorithm.body row locals n N 0 0 no_slots le ok can.body w2.0 w3.0 w3.0 s2 slots2 [] (returns a (at_header p al.room enter a) k) (returns a (at_header p al.room enter a) k) w3.1 e0 same2 back back))
+      fits_ok al p cs u fr enter names a.algorithm.head.gives a.first row locals N no_slots ok sc a.algorithm.head.params (header_params a) can.params 0 w1.0 g gs [] _ w1.1 same
+      (λ s1 slots1 same1. some_claim_ok al p cs u fr enter names a.algorithm.head.gives a.first row locals N no_slots ok sc a.algorithm.given can.given w1.0 w2.0 s1 slots1 [] _ w2.1 same1
+      (λ s2 slots2 same2. block_ok al p cs u fr enter names a.algorithm.head.gives a.first a.algorithm.body row locals n N 0 0 no_slots le ok sc (body_in a) can.body w2.0 w3.0 w3.0 s2 slots2 [] (returns a (at_header p al.room enter a) k) (returns a (at_header p al.room enter a) k) w3.1 e0 same2 back back))
 
 -- ---- what is called
 built_in_first : (o : Option BuiltIn) (c : Option (Callee Placed)) (a : Placed) → or_else (option_map BuiltInCall o) c ≡ Some (Called a) → c ≡ Some (Called a)
@@ -165,7 +167,7 @@ algorithm_last : (o : Option Placed) (a : Placed) → option_map Called o ≡ So
 algorithm_last None a e = absurd (let none : ⊥ = cc in none)
 algorithm_last (Some b) a e = cc
 
-is_found : (p : Program) (f : List ℕ) (a : Placed) → callee_in p f ≡ Some (Called a) → algorithm_named own_name f p.algorithms ≡ Some a
+pub is_found : (p : Program) (f : List ℕ) (a : Placed) → callee_in p f ≡ Some (Called a) → algorithm_named own_name f p.algorithms ≡ Some a
 unfolding callee
 is_found p f a e =
     algorithm_last (algorithm_named own_name f p.algorithms) a

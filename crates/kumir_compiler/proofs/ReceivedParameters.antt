@@ -20,7 +20,7 @@ use Rattle.stack_code.specs.CodeState.{State, Slots, Plain, with_slot, cell_in, 
 use Rattle.stack_code.specs.Instructions as code
 use Rattle.stack_code.specs.Instructions.{Begun, if_fine, and_then, takes_value, values_taken, table_of, index_in, copied, copied_to, step}
 use Rattle.kumir_compiler.specs.Code.{Site, position}
-use Rattle.kumir_compiler.proofs.UsedHaveSlots.{is_among}
+use Rattle.kumir_compiler.proofs.Variables.{is_among}
 use Rattle.kumir_compiler.proofs.SlotsHoldCells.{Same, stored, counted}
 use Rattle.kumir_compiler.proofs.Reach.{Reaches, on_go, on_halt}
 use Rattle.kumir_compiler.proofs.PassedToPlaces.{Indexed, SpotAt, Filled, Matches, MatchAll, pushed, all_pushed}

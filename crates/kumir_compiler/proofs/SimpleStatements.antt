@@ -11,7 +11,7 @@ use Rattle.kumir_values.specs.declared.run_end.RunFault.{RunFault}
 use Rattle.kumir_values.specs.declared.run_end.RunFault.TheVariants.{Bounds, Elements}
 use Rattle.kumir_values.specs.Bounds.{all_ordered, elements}
 use Rattle.kumir_meaning.specs.Runs as state
-use Rattle.kumir_names.specs.Variables.{Names}
+use Rattle.kumir_names.specs.Variables.{Names, scalar, table, declares}
 use Rattle.kumir_names.specs.Callees.{BuiltInCall, Called, Callee, PenCall, RobotCall}
 use Rattle.kumir_meaning.specs.Program.{Placed, Program, callee_in}
 use Rattle.kumir_meaning.specs.Operators.{is_yes, text_of}
@@ -27,16 +27,18 @@ use Rattle.stack_code.specs.Instructions as code
 use Rattle.performer_kit.specs.Commands.{pen_arity}
 use Rattle.stack_code.specs.Instructions.{Event, Go, Halt, Does, Asks, After, On, Over, if_fine, unit_at, step}
 use Rattle.kumir_compiler.specs.Code.{Code, Site, on, slot, aim_code, store_code, claim_code, limits_code, tables_code, declares_code, invoke_code, place_kind, kind_or_whole, inputs_code, outputs_code, tree_code, trees_code, arguments_code, call_places}
-use Rattle.kumir_compiler.proofs.UsedHaveSlots.{is_among, IsThere, IsMissing, IsValue, AreLimits, IsTarget, HaveSlots, AreTables, IsDeclared, IsInvoked, TakeInputs, AreShown}
+use Rattle.kumir_compiler.specs.Compilable.{IsThere, IsMissing, IsValue, AreLimits, IsTarget, AreTables, IsDeclared, IsInvoked, TakeInputs, AreShown}
+use Rattle.kumir_compiler.proofs.Variables.{is_among}
+use Rattle.kumir_compiler.proofs.LocalsHaveSlots.{In, Slotted, has_slot}
 use Rattle.kumir_compiler.proofs.CodeAt.{IsCodeAt, parts}
 use Rattle.kumir_compiler.proofs.SlotsHoldCells.{Same, stored, counted, narrowed}
 use Rattle.kumir_compiler.proofs.Reach.{here, Reaches, Follows, on_go, on_halt, on_step, on_does, on_asks, on_takes, after_on, after_over, moved}
 use Rattle.kumir_compiler.proofs.Operands.{onto, drop_onto, numbers_onto}
 use Rattle.kumir_compiler.proofs.Evaluates.{GoesOn, line}
 use Rattle.kumir_compiler.proofs.PassedToPlaces.{all_keep}
-use Rattle.kumir_compiler.proofs.Arguments.{with_answer, EnterOk, enters_ok}
+use Rattle.kumir_compiler.proofs.ArgumentsMean.{with_answer, EnterOk, enters_ok}
 use Rattle.kumir_compiler.proofs.SettledPlaces.{settled_ok, settled_err}
-use Rattle.kumir_compiler.proofs.Expressions.{site, spot_of, tree_ok, trees_ok, arguments_ok}
+use Rattle.kumir_compiler.proofs.ExpressionsMean.{site, spot_of, tree_ok, trees_ok, arguments_ok}
 
 -- the place of a target by its indexes, and how many there are
 abbrev pub aim : Place → List Value → Spot
@@ -53,7 +55,7 @@ no_onto : (vs stack : List Value) → length vs ≡ 0 → onto vs stack ≡ stac
 no_onto [] stack e = refl
 no_onto (v ∷ vs) stack e = absurd (omega arith)
 
-module _ (al : Allowed) (p : Program) (cs : List CodeUnit) (u : ℕ) (fr : List Frame) (enter : Enter) (names : List CellName) (answer : Option Kind) (first : ℕ) (row : ℕ) (locals : Names) (N d : ℕ) (h : Slots) (ok : EnterOk al p cs u fr enter N) where
+module _ (al : Allowed) (p : Program) (cs : List CodeUnit) (u : ℕ) (fr : List Frame) (enter : Enter) (names : List CellName) (answer : Option Kind) (first : ℕ) (row : ℕ) (locals : Names) (N d : ℕ) (h : Slots) (ok : EnterOk al p cs u fr enter N) (sc : Slotted names answer locals) where
   abbrev T : Site
   T = site al p cs u fr enter names answer first row locals
 
@@ -70,7 +72,7 @@ module _ (al : Allowed) (p : Program) (cs : List CodeUnit) (u : ℕ) (fr : List 
   aims_ok ToAnswer known pc end s slots stack k has same go = moved al cs u fr N pc end stack slots s.used _ has (go [] s slots refl same)
   aims_ok (ToScalar x) known pc end s slots stack k has same go = moved al cs u fr N pc end stack slots s.used _ has (go [] s slots refl same)
   aims_ok (ToElement x es) known pc end s slots stack k has same go =
-      trees_ok al p cs u fr enter names answer first es row locals N d h ok known.1 pc end s slots stack (λ vs. k (AtElement x (numbers_of vs))) has same (λ vs s1 slots1 len same1. go vs s1 slots1 len same1)
+      trees_ok al p cs u fr enter names answer first es row locals N d h ok sc known.1 pc end s slots stack (λ vs. k (AtElement x (numbers_of vs))) has same (λ vs s1 slots1 len same1. go vs s1 slots1 len same1)
 
   stores_variable : (x : CellName) (v : Value) (pc : ℕ) (s : Store) (slots : Slots) (stack : List Value) (k : Then) → is_among names x ≡ true → slice_get Lines pc ≡ Some (on T (instruction.Store (slot T x)) pc) → Same names d h s slots → GoesOn al cs u fr T N d h (pc + 1) stack k
       → Reaches al cs N (here u fr pc (v ∷ stack) slots s.used) (k (with_cell s x (Has v)))
@@ -106,10 +108,10 @@ module _ (al : Allowed) (p : Program) (cs : List CodeUnit) (u : ℕ) (fr : List 
   stores_ok : (x : Place) (vs : List Value) (v : Value) → IsTarget x T → length vs ≡ aim_count x → (pc : ℕ) (s : Store) (slots : Slots) (stack : List Value) (k : Then) → slice_get Lines pc ≡ Some (store_code x T pc) → Same names d h s slots → GoesOn al cs u fr T N d h (pc + 1) stack k
       → Reaches al cs N (here u fr pc (v ∷ onto vs stack) slots s.used) (stores (aim x vs) v (spot_of al p cs u fr enter names answer first row locals) k s)
   stores_ok ToAnswer vs v known len pc s slots stack k has same go =
-      subst (λ l. Reaches al cs N (here u fr pc (v ∷ l) slots s.used) (k (with_cell s TheAnswer (Has v)))) (sym (no_onto vs stack len)) (stores_variable TheAnswer v pc s slots stack k known has same go)
+      subst (λ l. Reaches al cs N (here u fr pc (v ∷ l) slots s.used) (k (with_cell s TheAnswer (Has v)))) (sym (no_onto vs stack len)) (stores_variable TheAnswer v pc s slots stack k (sc.answer_in known) has same go)
   stores_ok (ToScalar x) vs v known len pc s slots stack k has same go =
-      subst (λ l. Reaches al cs N (here u fr pc (v ∷ l) slots s.used) (k (with_cell s (Local x) (Has v)))) (sym (no_onto vs stack len)) (stores_variable (Local x) v pc s slots stack k known has same go)
-  stores_ok (ToElement x es) vs v known len pc s slots stack k has same go = stores_element x (count es) vs v pc s slots stack k known.0 len has same go (checked (s.cells (Local x)) (numbers_of vs)) refl
+      subst (λ l. Reaches al cs N (here u fr pc (v ∷ l) slots s.used) (k (with_cell s (Local x) (Has v)))) (sym (no_onto vs stack len)) (stores_variable (Local x) v pc s slots stack k (has_slot names answer locals sc x known) has same go)
+  stores_ok (ToElement x es) vs v known len pc s slots stack k has same go = stores_element x (count es) vs v pc s slots stack k (has_slot names answer locals sc x known.0) len has same go (checked (s.cells (Local x)) (numbers_of vs)) refl
 
   -- the place under another name, for what goes on
   pub goes_at : (q end : ℕ) (stack : List Value) (k : Then) → q ≡ end → GoesOn al cs u fr T N d h end stack k → GoesOn al cs u fr T N d h q stack k
@@ -120,7 +122,7 @@ module _ (al : Allowed) (p : Program) (cs : List CodeUnit) (u : ℕ) (fr : List 
       let w = parts Lines pc (aim_code x T d) _ end has in
       let y = parts Lines w.0 (tree_code e T d) _ end w.2 in
       aims_ok x target pc w.0 s slots stack _ w.1 same
-      (λ vs s1 slots1 len same1. tree_ok al p cs u fr enter names answer first e row locals N d h ok known w.0 y.0 s1 slots1 (onto vs stack) _ y.1 same1
+      (λ vs s1 slots1 len same1. tree_ok al p cs u fr enter names answer first e row locals N d h ok sc known w.0 y.0 s1 slots1 (onto vs stack) _ y.1 same1
       (λ v s2 slots2 same2. stores_ok x vs v target len y.0 s2 slots2 stack k y.2.0 same2 (goes_at (y.0 + 1) end stack k y.2.1 go)))
 
   takes_ok : (o : Option Kind) → IsThere o → (x : Place) (vs : List Value) → IsTarget x T → length vs ≡ aim_count x → (pc end : ℕ) (s : Store) (slots : Slots) (stack : List Value) (k : Then) → slice_get Lines pc ≡ Some (on T (instruction.Input (kind_or_whole o)) pc) → slice_get Lines (pc + 1) ≡ Some (store_code x T (pc + 1)) → pc + 1 + 1 ≡ end → Same names d h s slots → GoesOn al cs u fr T N d h end stack k
@@ -148,7 +150,7 @@ module _ (al : Allowed) (p : Program) (cs : List CodeUnit) (u : ℕ) (fr : List 
   outputs_ok [] known pc end s slots stack k has same go = moved al cs u fr N pc end stack slots s.used _ has (go s slots same)
   outputs_ok (ShowValue e ∷ xs) known pc end s slots stack k has same go =
       let w = parts Lines pc (tree_code e T d) _ end has in
-      tree_ok al p cs u fr enter names answer first e row locals N d h ok known.0 pc w.0 s slots stack _ w.1 same
+      tree_ok al p cs u fr enter names answer first e row locals N d h ok sc known.0 pc w.0 s slots stack _ w.1 same
       (λ v s1 slots1 same1. on_does al cs N _ _ (Printed (text_of v)) (λ s2. outputs xs (spot_of al p cs u fr enter names answer first row locals) k s2) s1 (line al cs u fr T N d h w.0 (v ∷ stack) slots1 s1 _ w.2.0)
       (outputs_ok xs known.1 (w.0 + 1) end s1 slots1 stack k w.2.1 same1 go))
   outputs_ok (ShowText text ∷ xs) known pc end s slots stack k has same go =
@@ -161,18 +163,18 @@ module _ (al : Allowed) (p : Program) (cs : List CodeUnit) (u : ℕ) (fr : List 
   pub claims_ok : (e : Tree) → IsValue e T → Serves (claim_code e T d) (λ k. claims e (spot_of al p cs u fr enter names answer first row locals) k)
   claims_ok e known pc end s slots stack k has same go =
       let w = parts Lines pc (tree_code e T d) _ end has in
-      tree_ok al p cs u fr enter names answer first e row locals N d h ok known pc w.0 s slots stack _ w.1 same
+      tree_ok al p cs u fr enter names answer first e row locals N d h ok sc known pc w.0 s slots stack _ w.1 same
       (λ v s1 slots1 same1. asserts (is_yes v) _ _ s1 (line al cs u fr T N d h w.0 (v ∷ stack) slots1 s1 _ w.2.0) (moved al cs u fr N _ _ stack slots1 s1.used (k s1) w.2.1 (go s1 slots1 same1)))
     where
       asserts : (b : Bool) (now then : State) (s1 : Store) → step al cs now ≡ cond b (Go then) (Halt (state.Assert row)) → Reaches al cs N then (k s1) → Reaches al cs N now (choose b k (λ s2. stops (state.Assert row)) s1)
       asserts true now then s1 e r = on_go al cs N now then (k s1) e r
       asserts false now then s1 e r = on_halt al cs N now (state.Assert row) e
 
-  clears_ok : (xs : List (List ℕ)) → HaveSlots xs T → Serves (map (λ x. on T (instruction.Clear (slot T (Local x)))) xs) (λ k s. k (cleared xs s))
-  clears_ok [] known pc end s slots stack k has same go = moved al cs u fr N pc end stack slots s.used _ has (go s slots same)
-  clears_ok (x ∷ xs) known pc end s slots stack k has same go =
+  clears_ok : (kind : Kind) (xs : List (List ℕ)) → In names (map (scalar kind) xs) → Serves (map (λ x. on T (instruction.Clear (slot T (Local x)))) xs) (λ k s. k (cleared xs s))
+  clears_ok kind [] i pc end s slots stack k has same go = moved al cs u fr N pc end stack slots s.used _ has (go s slots same)
+  clears_ok kind (x ∷ xs) i pc end s slots stack k has same go =
       on_go al cs N _ _ _ (line al cs u fr T N d h pc stack slots s _ has.0)
-      (clears_ok xs known.1 (pc + 1) end _ _ stack k has.1 (stored names d h s slots (Local x) Empty (Plain Empty) known.0 refl same) go)
+      (clears_ok kind xs i.1 (pc + 1) end _ _ stack k has.1 (stored names d h s slots (Local x) Empty (Plain Empty) i.0 refl same) go)
 
   -- bounds leave their numbers in pairs
   pub limits_ok : (limits : Limits) → AreLimits limits T → (pc end : ℕ) (s : Store) (slots : Slots) (stack : List Value) (k : List Bound → Then) → IsCodeAt Lines pc (limits_code limits T d) end → Same names d h s slots
@@ -182,8 +184,8 @@ module _ (al : Allowed) (p : Program) (cs : List CodeUnit) (u : ℕ) (fr : List 
   limits_ok (limit ∷ limits) known pc end s slots stack k has same go =
       let w = parts Lines pc (tree_code limit.0 T d) _ end has in
       let y = parts Lines w.0 (tree_code limit.1 T d) _ end w.2 in
-      tree_ok al p cs u fr enter names answer first limit.0 row locals N d h ok known.0 pc w.0 s slots stack _ w.1 same
-      (λ low s1 slots1 same1. tree_ok al p cs u fr enter names answer first limit.1 row locals N d h ok known.1 w.0 y.0 s1 slots1 (low ∷ stack) _ y.1 same1
+      tree_ok al p cs u fr enter names answer first limit.0 row locals N d h ok sc known.0 pc w.0 s slots stack _ w.1 same
+      (λ low s1 slots1 same1. tree_ok al p cs u fr enter names answer first limit.1 row locals N d h ok sc known.1 w.0 y.0 s1 slots1 (low ∷ stack) _ y.1 same1
       (λ high s2 slots2 same2. limits_ok limits known.2 y.0 end s2 slots2 (high ∷ low ∷ stack) _ y.2 same2
       (λ vs s3 slots3 len same3. go (low ∷ high ∷ vs) s3 slots3 (omega arith) same3)))
 
@@ -193,11 +195,11 @@ module _ (al : Allowed) (p : Program) (cs : List CodeUnit) (u : ℕ) (fr : List 
   made_ok true false now then made k e r = on_halt al cs N now (state.Fault row Elements) e
   made_ok false room now then made k e r = on_halt al cs N now (state.Fault row Bounds) e
 
-  makes_ok : (kind : Kind) (xs : List (List ℕ × Limits)) → AreTables xs T → Serves (tables_code kind xs T d) (λ k. makes kind xs (spot_of al p cs u fr enter names answer first row locals) k)
-  makes_ok kind [] known pc end s slots stack k has same go = moved al cs u fr N pc end stack slots s.used _ has (go s slots same)
-  makes_ok kind (x ∷ xs) known pc end s slots stack k has same go =
+  makes_ok : (kind : Kind) (xs : List (List ℕ × Limits)) → In names (map (table kind) xs) → AreTables xs T → Serves (tables_code kind xs T d) (λ k. makes kind xs (spot_of al p cs u fr enter names answer first row locals) k)
+  makes_ok kind [] i known pc end s slots stack k has same go = moved al cs u fr N pc end stack slots s.used _ has (go s slots same)
+  makes_ok kind (x ∷ xs) i known pc end s slots stack k has same go =
       let w = parts Lines pc (limits_code x.1 T d) _ end has in
-      limits_ok x.1 known.1 pc w.0 s slots stack _ w.1 same
+      limits_ok x.1 known.0 pc w.0 s slots stack _ w.1 same
       (λ vs s1 slots1 len same1.
       let bs = paired (numbers_of vs) in
       let count1 = s1.used - elements_in (s1.cells (Local x.0)) + elements bs in
@@ -205,13 +207,13 @@ module _ (al : Allowed) (p : Program) (cs : List CodeUnit) (u : ℕ) (fr : List 
       (line al cs u fr T N d h w.0 (onto vs stack) slots1 s1 _ w.2.0
       ∙ ap (λ l. code.makes_table al.room (slot T (Local x.0)) kind (paired l) row (here u fr w.0 (onto vs stack) slots1 s1.used) (drop (2 * length x.1) (onto vs stack))) (numbers_onto vs stack (2 * length x.1) len)
       ∙ ap (λ l. code.makes_table al.room (slot T (Local x.0)) kind bs row (here u fr w.0 (onto vs stack) slots1 s1.used) l) (drop_onto vs stack (2 * length x.1) len)
-      ∙ ap (λ c. cond (all_ordered bs) (cond (nat_le (s1.used - elements_in c + elements bs) al.room) (Go (record { unit = u; pc = w.0 + 1; stack = stack; slots = with_slot slots1 (slot T (Local x.0)) (Plain (without_values kind bs)); used = s1.used - elements_in c + elements bs; frames = fr })) (Halt (state.Fault row Elements))) (Halt (state.Fault row Bounds))) (same1.vars (Local x.0) known.0))
-      (makes_ok kind xs known.2 (w.0 + 1) end _ _ stack k w.2.1
-      (counted names d h _ _ count1 (stored names d h s1 slots1 (Local x.0) (without_values kind bs) (Plain (without_values kind bs)) known.0 refl same1)) go))
+      ∙ ap (λ c. cond (all_ordered bs) (cond (nat_le (s1.used - elements_in c + elements bs) al.room) (Go (record { unit = u; pc = w.0 + 1; stack = stack; slots = with_slot slots1 (slot T (Local x.0)) (Plain (without_values kind bs)); used = s1.used - elements_in c + elements bs; frames = fr })) (Halt (state.Fault row Elements))) (Halt (state.Fault row Bounds))) (same1.vars (Local x.0) i.0))
+      (makes_ok kind xs i.1 known.1 (w.0 + 1) end _ _ stack k w.2.1
+      (counted names d h _ _ count1 (stored names d h s1 slots1 (Local x.0) (without_values kind bs) (Plain (without_values kind bs)) i.0 refl same1)) go))
 
-  pub establishes_ok : (x : Declares) → IsDeclared x T → Serves (declares_code x T d) (λ k. establishes x (spot_of al p cs u fr enter names answer first row locals) k)
-  establishes_ok (Scalars kind xs) known = clears_ok xs known
-  establishes_ok (Tables kind xs) known = makes_ok kind xs known
+  pub establishes_ok : (x : Declares) → In names (declares x) → IsDeclared x T → Serves (declares_code x T d) (λ k. establishes x (spot_of al p cs u fr enter names answer first row locals) k)
+  establishes_ok (Scalars kind xs) i known = clears_ok kind xs i
+  establishes_ok (Tables kind xs) i known = makes_ok kind xs i known
 
   -- ---- calls as statements
   missing_stack : (o : Option Kind) (v : Value) (stack : List Value) → IsMissing o → with_answer o v stack ≡ stack
@@ -225,7 +227,7 @@ module _ (al : Allowed) (p : Program) (cs : List CodeUnit) (u : ℕ) (fr : List 
   pub invokes_ok : (c : Option (Callee Placed)) (f : List ℕ) → callee_in p f ≡ c → (es : Trees) → IsInvoked c es T → Serves (invoke_code c f es T d) (λ k. invokes c es (spot_of al p cs u fr enter names answer first row locals) k)
   invokes_ok (Some (Called a)) f e es known pc end s slots stack k has same go =
       let w = parts Lines pc (arguments_code es a.algorithm.head.params T d) _ end has in
-      arguments_ok al p cs u fr enter names answer first es a.algorithm.head.params row locals N d h ok known.1 pc w.0 s slots stack (λ passed. steps_in a passed (spot_of al p cs u fr enter names answer first row locals) (λ v. k)) w.1 same
+      arguments_ok al p cs u fr enter names answer first es a.algorithm.head.params row locals N d h ok sc known.1 pc w.0 s slots stack (λ passed. steps_in a passed (spot_of al p cs u fr enter names answer first row locals) (λ v. k)) w.1 same
       (λ passed h1 s1 slots1 agree same1 match. enters_ok al cs u fr T p enter N (d + all_keep es a.algorithm.head.params) h1 f a (call_places es a.algorithm.head.params T d) passed refl ok e match w.0 end s1 slots1 stack (λ v. k) w.2 same1
       (λ v s2 slots2 same2. subst (λ l. Reaches al cs N (here u fr end l slots2 s2.used) (k s2)) (sym (missing_stack a.algorithm.head.gives v stack known.0))
       (go s2 slots2 (narrowed names d (d + all_keep es a.algorithm.head.params) h h1 s2 slots2 (omega arith) agree same2))))
@@ -237,7 +239,7 @@ module _ (al : Allowed) (p : Program) (cs : List CodeUnit) (u : ℕ) (fr : List 
       (λ r. walls (is_wall r) _ s k (moved al cs u fr N _ _ stack slots s.used (k s) has.1.1 (go s slots same))))
   invokes_ok (Some (PenCall c)) f e es known pc end s slots stack k has same go =
       let w = parts Lines pc (trees_code es T d) _ end has in
-      trees_ok al p cs u fr enter names answer first es row locals N d h ok known.1 pc w.0 s slots stack _ w.1 same
+      trees_ok al p cs u fr enter names answer first es row locals N d h ok sc known.1 pc w.0 s slots stack _ w.1 same
       (λ vs s1 slots1 len same1.
       on_step al cs N _ _ (λ s2. does (Sent (Pen (pen_command c (numbers_of vs)))) k s2) s1 (line al cs u fr T N d h w.0 (onto vs stack) slots1 s1 _ w.2.0)
       (on_does al cs N _ _ (Sent (Pen (pen_command c (numbers_of vs)))) k s1

@@ -4,8 +4,7 @@ use Rattle.std.proofs.lemmas.Bool.Decides.{nat_tests}
 use Rattle.kumir_meaning.specs.Store.{CellName, same_cell_name, Cell, Store, with_cell}
 use Rattle.stack_code.specs.CodeState.{Slot, Slots, with_slot, cell_in}
 use Rattle.kumir_compiler.specs.Code.{position}
-use Rattle.kumir_compiler.proofs.UsedHaveSlots.{is_among}
-use Rattle.kumir_compiler.proofs.Variables.{position_within, position_eq}
+use Rattle.kumir_compiler.proofs.Variables.{is_among, position_within, position_eq}
 
 -- the variables' cells stand in their slots, and d hidden slots hold what they held
 pub record Same (names : List CellName) (d : ℕ) (h : Slots) (s : Store) (slots : Slots) : Type 0 where

@@ -66,7 +66,7 @@ operands_there op.Minus a b h = two_there kind.Whole kind.Whole a b h
 operands_there op.Times a b h = two_there kind.Whole kind.Whole a b h
 operands_there op.Power a b h = two_there kind.Whole kind.Whole a b h
 
-equal_numbers : (a b : ℕ) → nat_eq a b ≡ true → a ≡ b
+pub equal_numbers : (a b : ℕ) → nat_eq a b ≡ true → a ≡ b
 equal_numbers a b e = grind (arith, e)
 
 -- ---- calls
@@ -90,7 +90,7 @@ missing : (o : Option Kind) (b : Bool) → (not (is_some o) && b) ≡ true → I
 missing None b e = (tt, e)
 missing (Some k) b e = absurd (let wrong : ⊥ = cc in wrong)
 
-no_test : (t : Bool) (b : Bool) → (not t && b) ≡ true → t ≡ false
+pub no_test : (t : Bool) (b : Bool) → (not t && b) ≡ true → t ≡ false
 no_test true b e = absurd (let wrong : ⊥ = cc in wrong)
 no_test false b e = refl
 

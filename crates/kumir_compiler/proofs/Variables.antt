@@ -1,10 +1,14 @@
 -- Variables and their positions.
 use Rattle.std.proofs.Common.{◌≡◌, ℕ, suc, ◌<◌, Bool, true, false, cond, List, [], ◌∷◌, ◌++◌, length, refl, sym, ap, ◌∙◌, arith, nat_eq, true≢false}
+use Rattle.std.specs.Prelude.{if◌then◌else◌}
 use Rattle.std.proofs.lemmas.Bool.Decides.{nat_tests}
 use Rattle.std.proofs.lemmas.Slice.Eq.{bytes_eq-Decides}
 use Rattle.kumir_meaning.specs.Store.{CellName, TheAnswer, Local, same_cell_name}
 use Rattle.kumir_compiler.specs.Code.{position}
-use Rattle.kumir_compiler.proofs.UsedHaveSlots.{is_among}
+
+abbrev pub is_among : List CellName → CellName → Bool
+is_among [] x = false
+is_among (y ∷ variables) x = if same_cell_name y x then true else is_among variables x
 
 pub same_itself : (x : CellName) → same_cell_name x x ≡ true
 same_itself TheAnswer = refl

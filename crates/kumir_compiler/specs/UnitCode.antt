@@ -135,3 +135,16 @@ unit_of a t body = record {
 
 abbrev pub unit_code : Program → Placed → CodeUnit
 unit_code p a = unit_of a (header_site p a) (placed 0 (algorithm_code a (header_site p a)))
+
+-- ---- the entry
+-- a run begins with the first algorithm, where it has no parameters
+abbrev pub without_params : List Formal → Option ℕ
+without_params [] = Some 0
+without_params (p ∷ params) = None
+
+abbrev pub entry_among : List Placed → Option ℕ
+entry_among [] = None
+entry_among (a ∷ more) = without_params a.algorithm.head.params
+
+abbrev pub entry_of : Program → Option ℕ
+entry_of p = entry_among p.algorithms

@@ -14,7 +14,7 @@ use Rattle.stack_code.specs.CodeState.{State, Frame, Slots, Plain, Left, Numbers
 use Rattle.stack_code.specs.Instructions as code
 use Rattle.stack_code.specs.Instructions.{Go, unit_at}
 use Rattle.kumir_compiler.specs.Code.{Code, Site, slot, hidden, while_code, turns_code, forever_code, until_code, choice_code}
-use Rattle.kumir_compiler.proofs.UsedHaveSlots.{is_among}
+use Rattle.kumir_compiler.proofs.Variables.{is_among}
 use Rattle.kumir_compiler.proofs.CodeAt.{IsCodeAt, parts, spans}
 use Rattle.kumir_compiler.proofs.SlotsHoldCells.{Same, stored, grown, shrunk, with_same}
 use Rattle.kumir_compiler.proofs.Reach.{here, Reaches, fewer, on_go, on_tick, on_last, on_none, on_step, moved, on_branch}

@@ -18,7 +18,7 @@ use Rattle.stack_code.specs.declared.unit.CodeUnit.{CodeUnit}
 use Rattle.stack_code.specs.CodeState.{Frame, Slots, Plain, with_slot, cell_in, numbers, next}
 use Rattle.stack_code.specs.Instructions.{pushes_result, if_fine, unit_at}
 use Rattle.kumir_compiler.specs.Code.{Code, Site, on, slot, hidden, keep_code, kept_at, enter_code, number_of_unit}
-use Rattle.kumir_compiler.proofs.UsedHaveSlots.{is_among}
+use Rattle.kumir_compiler.proofs.Variables.{is_among}
 use Rattle.kumir_compiler.proofs.CodeAt.{IsCodeAt, parts}
 use Rattle.kumir_compiler.proofs.SlotsHoldCells.{Same, grown, grown_agree, with_same}
 use Rattle.kumir_compiler.proofs.Reach.{here, Reaches, fewer, on_go, on_halt, on_tick, on_last, moved}

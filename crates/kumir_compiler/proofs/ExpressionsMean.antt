@@ -27,14 +27,16 @@ use Rattle.stack_code.specs.CodeState.{State, Frame, Slots, cell_in, numbers}
 use Rattle.stack_code.specs.Instructions.{pushes_result, operates, applies, event_of, unit_at}
 use Rattle.type_check.specs.Kinds.{form_kind}
 use Rattle.kumir_compiler.specs.Code.{Code, Site, on, hidden, position, kept_at, by_kind, among, built_in_code, call_code, named_code, enter_code, argument_code, tree_keeps, keeps, tree_place, call_place, call_places, read_code, tree_code, trees_code, arguments_code, place_code}
-use Rattle.kumir_compiler.proofs.UsedHaveSlots.{is_among, HasSlot, IsThere, IsValueCall, IsName, IsArgument, IsValue, AreValues, AreArguments, IsPlace}
+use Rattle.kumir_compiler.specs.Compilable.{IsThere, IsLocal, IsValueCall, IsName, IsArgument, IsValue, AreValues, AreArguments, IsPlace}
+use Rattle.kumir_compiler.proofs.Variables.{is_among}
+use Rattle.kumir_compiler.proofs.LocalsHaveSlots.{Slotted, has_slot}
 use Rattle.kumir_compiler.proofs.CodeAt.{IsCodeAt, parts}
 use Rattle.kumir_compiler.proofs.SlotsHoldCells.{Same, narrowed}
 use Rattle.kumir_compiler.proofs.Reach.{here, Reaches, moved, on_gives}
 use Rattle.kumir_compiler.proofs.Operands.{onto, drop_onto, numbers_onto}
 use Rattle.kumir_compiler.proofs.Evaluates.{Evaluates, EvaluatesAll, line, pushes, loads, negates, denies, combines, disjoins, conjoins, no_values, more_values, elements_of, applies_to, tests}
 use Rattle.kumir_compiler.proofs.PassedToPlaces.{Indexed, SpotAt, Matches, matches_more, MatchAll, pushed, all_pushed, onto_both, all_keep}
-use Rattle.kumir_compiler.proofs.Arguments.{with_answer, EnterOk, fixes_element, enters_ok, loads_kept, kept_length}
+use Rattle.kumir_compiler.proofs.ArgumentsMean.{with_answer, EnterOk, fixes_element, enters_ok, loads_kept, kept_length}
 
 module _ (al : Allowed) (p : Program) (cs : List CodeUnit) (u : ℕ) (fr : List Frame) (enter : Enter) (names : List CellName) (answer : Option Kind) (first : ℕ) where
   abbrev pub site : ℕ → Names → Site
@@ -98,24 +100,24 @@ module _ (al : Allowed) (p : Program) (cs : List CodeUnit) (u : ℕ) (fr : List 
   reads_ok (Binary o a b) t x N d h s slots stack pc end k is known at same has go = absurd known
 
   -- one argument, by its parameter
-  argument_ok : (o : Option Limits) (mode : Mode) (e : Tree) (row : ℕ) (locals : Names) (N d : ℕ) (h : Slots)
+  argument_ok : (o : Option Limits) (mode : Mode) (e : Tree) (row : ℕ) (locals : Names) (N d : ℕ) (h : Slots) → Slotted names answer locals
       → (IsValue e (site row locals) → Evaluates al cs u fr (site row locals) N d h (tree_code e (site row locals) d) (λ k. eval e (spot_of row locals) k))
       → (IsPlace e (site row locals) → (pc end : ℕ) (s : Store) (slots : Slots) (stack : List Value) (k : Spot → Then) → IsCodeAt Lines pc (place_code e (site row locals) d) end → Same names d h s slots → TakesSpot (site row locals) N d h end stack e k → Reaches al cs N (here u fr pc stack slots s.used) (fixes e (spot_of row locals) k s))
-      → IsArgument o mode (HasSlot (site row locals) (Local (name_of e))) (IsValue e (site row locals)) (IsPlace e (site row locals))
+      → IsArgument o mode (IsLocal (site row locals) (name_of e)) (IsValue e (site row locals)) (IsPlace e (site row locals))
       → (pc end : ℕ) (s : Store) (slots : Slots) (stack : List Value) (k : Passed → Then) → IsCodeAt Lines pc (argument_code o mode (tree_code e (site row locals) d) (place_code e (site row locals) d) (read_code e (site row locals) d)) end → Same names d h s slots
       → TakesOne (site row locals) N d h end stack o mode e k
       → Reaches al cs N (here u fr pc stack slots s.used) (passes o mode (name_of e) (λ k1. eval e (spot_of row locals) k1) (λ k1. fixes e (spot_of row locals) k1) (spot_of row locals) k s)
-  argument_ok (Some limits) mode e row locals N d h iv ip known pc end s slots stack k has same go =
+  argument_ok (Some limits) mode e row locals N d h sc iv ip known pc end s slots stack k has same go =
       let z : d ≡ d + 0 = omega arith in
-      moved al cs u fr N pc end stack slots s.used _ has (go (ByTable (name_of e)) h s slots (λ i b. refl) (subst (λ n. Same names n h s slots) z same) (refl, known))
-  argument_ok None Arg e row locals N d h iv ip known pc end s slots stack k has same go =
+      moved al cs u fr N pc end stack slots s.used _ has (go (ByTable (name_of e)) h s slots (λ i b. refl) (subst (λ n. Same names n h s slots) z same) (refl, has_slot names answer locals sc (name_of e) known))
+  argument_ok None Arg e row locals N d h sc iv ip known pc end s slots stack k has same go =
       let z : d ≡ d + 0 = omega arith in
       iv known pc end s slots stack (λ v. k (ByValue v)) has same
       (λ v s1 slots1 same1. go (ByValue v) h s1 slots1 (λ i b. refl) (subst (λ n. Same names n h s1 slots1) z same1) tt)
-  argument_ok None Res e row locals N d h iv ip known pc end s slots stack k has same go =
+  argument_ok None Res e row locals N d h sc iv ip known pc end s slots stack k has same go =
       ip known pc end s slots stack (λ x. k (ByPlace x None)) has same
       (λ x h1 s1 slots1 agree same1 at. go (ByPlace x None) h1 s1 slots1 agree same1 (at, tt))
-  argument_ok None ArgRes e row locals N d h iv ip known pc end s slots stack k has same go =
+  argument_ok None ArgRes e row locals N d h sc iv ip known pc end s slots stack k has same go =
       let w = parts Lines pc (place_code e (site row locals) d) _ end has in
       ip known pc w.0 s slots stack (λ x s1. unless_fault (read_at x s1) row (λ v. k (ByPlace x (Some v)) s1)) w.1 same
       (λ x h1 s1 slots1 agree same1 at. reads_ok e (site row locals) x N d h1 s1 slots1 stack w.0 end (λ v. k (ByPlace x (Some v)) s1) refl known at same1 w.2
@@ -164,89 +166,89 @@ module _ (al : Allowed) (p : Program) (cs : List CodeUnit) (u : ℕ) (fr : List 
   calls_ok (Some (PenCall c)) f e row locals N d h algorithm vals enters computes wa wb ia ib known = absurd known
   calls_ok None f e row locals N d h algorithm vals enters computes wa wb ia ib known = absurd known
 
-  named_ok : (o : Option Variable) (x : List ℕ) (row : ℕ) (locals : Names) (N d : ℕ) (h : Slots) → EnterOk al p cs u fr enter N → IsName o x (site row locals) → Evaluates al cs u fr (site row locals) N d h (named_code o x (site row locals)) (λ k. named o x (spot_of row locals) k)
-  named_ok (Some v) x row locals N d h ok known = loads al cs u fr (site row locals) N d h (Local x) known
-  named_ok None x row locals N d h ok known =
+  named_ok : (o : Option Variable) (x : List ℕ) (row : ℕ) (locals : Names) (N d : ℕ) (h : Slots) → EnterOk al p cs u fr enter N → Slotted names answer locals → variable locals x ≡ o → IsName o x (site row locals) → Evaluates al cs u fr (site row locals) N d h (named_code o x (site row locals)) (λ k. named o x (spot_of row locals) k)
+  named_ok (Some v) x row locals N d h ok sc is known = loads al cs u fr (site row locals) N d h (Local x) (has_slot names answer locals sc x (subst IsThere (sym is) tt))
+  named_ok None x row locals N d h ok sc is known =
       calls_ok (callee_in p x) x refl row locals N d h (λ a. enter_code x [] (site row locals)) [] (λ a k. steps_in a [] (spot_of row locals) k) _ (λ a. Unit {0}) (λ b. ⊥)
       (λ a e there w pc end s slots stack k has same go. enters_ok al cs u fr (site row locals) p enter N d h x a [] [] refl ok e tt pc end s slots stack k has same
       (λ v s2 slots2 same2. subst (λ l. Reaches al cs N (here u fr end l slots2 s2.used) (k v s2)) (sym (there_stack a.algorithm.head.gives v stack there)) (go v s2 slots2 same2)))
       (λ b w. absurd w) known
 
   mutual
-    pub tree_ok : (e : Tree) (row : ℕ) (locals : Names) (N d : ℕ) (h : Slots) → EnterOk al p cs u fr enter N → IsValue e (site row locals) → Evaluates al cs u fr (site row locals) N d h (tree_code e (site row locals) d) (λ k. eval e (spot_of row locals) k)
-    tree_ok (Number z) row locals N d h ok known = pushes al cs u fr (site row locals) N d h (Whole z)
-    tree_ok (TruthOf b) row locals N d h ok known = pushes al cs u fr (site row locals) N d h (Truth b)
-    tree_ok Answer row locals N d h ok known = loads al cs u fr (site row locals) N d h TheAnswer known
-    tree_ok (Named x) row locals N d h ok known = named_ok (variable locals x) x row locals N d h ok known
-    tree_ok (Element x es) row locals N d h ok known =
-        elements_of al cs u fr (site row locals) N d h x (count es) (trees_code es (site row locals) d) (λ k. values es (spot_of row locals) k) known.0 (trees_ok es row locals N d h ok known.1)
-    tree_ok (Call f es) row locals N d h ok known =
+    pub tree_ok : (e : Tree) (row : ℕ) (locals : Names) (N d : ℕ) (h : Slots) → EnterOk al p cs u fr enter N → Slotted names answer locals → IsValue e (site row locals) → Evaluates al cs u fr (site row locals) N d h (tree_code e (site row locals) d) (λ k. eval e (spot_of row locals) k)
+    tree_ok (Number z) row locals N d h ok sc known = pushes al cs u fr (site row locals) N d h (Whole z)
+    tree_ok (TruthOf b) row locals N d h ok sc known = pushes al cs u fr (site row locals) N d h (Truth b)
+    tree_ok Answer row locals N d h ok sc known = loads al cs u fr (site row locals) N d h TheAnswer (sc.answer_in known)
+    tree_ok (Named x) row locals N d h ok sc known = named_ok (variable locals x) x row locals N d h ok sc refl known
+    tree_ok (Element x es) row locals N d h ok sc known =
+        elements_of al cs u fr (site row locals) N d h x (count es) (trees_code es (site row locals) d) (λ k. values es (spot_of row locals) k) (has_slot names answer locals sc x known.0) (trees_ok es row locals N d h ok sc known.1)
+    tree_ok (Call f es) row locals N d h ok sc known =
         calls_ok (callee_in p f) f refl row locals N d h
         (λ a. arguments_code es a.algorithm.head.params (site row locals) d ++ enter_code f (call_places es a.algorithm.head.params (site row locals) d) (site row locals))
         (trees_code es (site row locals) d)
         (λ a k. args es a.algorithm.head.params (spot_of row locals) (λ passed. steps_in a passed (spot_of row locals) k)) _
         (λ a. AreArguments es a.algorithm.head.params (site row locals)) (λ b. (count es ≡ built_in_arity b) × AreValues es (site row locals))
-        (λ a e there w. answers_ok f a es row locals N d h ok e there (arguments_ok es a.algorithm.head.params row locals N d h ok w))
+        (λ a e there w. answers_ok f a es row locals N d h ok e there (arguments_ok es a.algorithm.head.params row locals N d h ok sc w))
         (λ b w. applies_to al cs u fr (site row locals) N d h b (built_in_arity b) (built_in_code b) (trees_code es (site row locals) d) (λ k. values es (spot_of row locals) k) (built_in_acts b row)
-        (subst (λ n. EvaluatesAll al cs u fr (site row locals) N d h n (trees_code es (site row locals) d) (λ k. values es (spot_of row locals) k)) w.0 (trees_ok es row locals N d h ok w.1)))
+        (subst (λ n. EvaluatesAll al cs u fr (site row locals) N d h n (trees_code es (site row locals) d) (λ k. values es (spot_of row locals) k)) w.0 (trees_ok es row locals N d h ok sc w.1)))
         known
-    tree_ok (Plus a) row locals N d h ok known = tree_ok a row locals N d h ok known
-    tree_ok (Minus a) row locals N d h ok known = negates al cs u fr (site row locals) N d h (tree_code a (site row locals) d) (λ k. eval a (spot_of row locals) k) (tree_ok a row locals N d h ok known)
-    tree_ok (Not a) row locals N d h ok known = denies al cs u fr (site row locals) N d h (tree_code a (site row locals) d) (λ k. eval a (spot_of row locals) k) (tree_ok a row locals N d h ok known)
-    tree_ok (Binary op.Or a b) row locals N d h ok known = disjoins al cs u fr (site row locals) N d h _ _ (λ k. eval a (spot_of row locals) k) (λ k. eval b (spot_of row locals) k) (tree_ok a row locals N d h ok known.0) (tree_ok b row locals N d h ok known.1)
-    tree_ok (Binary op.And a b) row locals N d h ok known = conjoins al cs u fr (site row locals) N d h _ _ (λ k. eval a (spot_of row locals) k) (λ k. eval b (spot_of row locals) k) (tree_ok a row locals N d h ok known.0) (tree_ok b row locals N d h ok known.1)
-    tree_ok (Binary op.Equal a b) row locals N d h ok known = combines al cs u fr (site row locals) N d h op.Equal (by_kind (form_kind (among (site row locals)) a) instruction.Eq instruction.EqTruth) _ _ (λ k. eval a (spot_of row locals) k) (λ k. eval b (spot_of row locals) k) (λ v. refl) (equal_acts (form_kind (among (site row locals)) a) row) (tree_ok a row locals N d h ok known.0) (tree_ok b row locals N d h ok known.1)
-    tree_ok (Binary op.NotEqual a b) row locals N d h ok known = combines al cs u fr (site row locals) N d h op.NotEqual (by_kind (form_kind (among (site row locals)) a) instruction.Ne instruction.NeTruth) _ _ (λ k. eval a (spot_of row locals) k) (λ k. eval b (spot_of row locals) k) (λ v. refl) (not_equal_acts (form_kind (among (site row locals)) a) row) (tree_ok a row locals N d h ok known.0) (tree_ok b row locals N d h ok known.1)
-    tree_ok (Binary op.Less a b) row locals N d h ok known = combines al cs u fr (site row locals) N d h op.Less instruction.Lt _ _ (λ k. eval a (spot_of row locals) k) (λ k. eval b (spot_of row locals) k) (λ v. refl) (λ s. refl) (tree_ok a row locals N d h ok known.0) (tree_ok b row locals N d h ok known.1)
-    tree_ok (Binary op.Greater a b) row locals N d h ok known = combines al cs u fr (site row locals) N d h op.Greater instruction.Gt _ _ (λ k. eval a (spot_of row locals) k) (λ k. eval b (spot_of row locals) k) (λ v. refl) (λ s. refl) (tree_ok a row locals N d h ok known.0) (tree_ok b row locals N d h ok known.1)
-    tree_ok (Binary op.LessOrEqual a b) row locals N d h ok known = combines al cs u fr (site row locals) N d h op.LessOrEqual instruction.Le _ _ (λ k. eval a (spot_of row locals) k) (λ k. eval b (spot_of row locals) k) (λ v. refl) (λ s. refl) (tree_ok a row locals N d h ok known.0) (tree_ok b row locals N d h ok known.1)
-    tree_ok (Binary op.GreaterOrEqual a b) row locals N d h ok known = combines al cs u fr (site row locals) N d h op.GreaterOrEqual instruction.Ge _ _ (λ k. eval a (spot_of row locals) k) (λ k. eval b (spot_of row locals) k) (λ v. refl) (λ s. refl) (tree_ok a row locals N d h ok known.0) (tree_ok b row locals N d h ok known.1)
-    tree_ok (Binary op.Plus a b) row locals N d h ok known = combines al cs u fr (site row locals) N d h op.Plus instruction.Add _ _ (λ k. eval a (spot_of row locals) k) (λ k. eval b (spot_of row locals) k) (λ v. refl) (λ s. refl) (tree_ok a row locals N d h ok known.0) (tree_ok b row locals N d h ok known.1)
-    tree_ok (Binary op.Minus a b) row locals N d h ok known = combines al cs u fr (site row locals) N d h op.Minus instruction.Sub _ _ (λ k. eval a (spot_of row locals) k) (λ k. eval b (spot_of row locals) k) (λ v. refl) (λ s. refl) (tree_ok a row locals N d h ok known.0) (tree_ok b row locals N d h ok known.1)
-    tree_ok (Binary op.Times a b) row locals N d h ok known = combines al cs u fr (site row locals) N d h op.Times instruction.Mul _ _ (λ k. eval a (spot_of row locals) k) (λ k. eval b (spot_of row locals) k) (λ v. refl) (λ s. refl) (tree_ok a row locals N d h ok known.0) (tree_ok b row locals N d h ok known.1)
-    tree_ok (Binary op.Power a b) row locals N d h ok known = combines al cs u fr (site row locals) N d h op.Power instruction.Pow _ _ (λ k. eval a (spot_of row locals) k) (λ k. eval b (spot_of row locals) k) (λ v. refl) (λ s. refl) (tree_ok a row locals N d h ok known.0) (tree_ok b row locals N d h ok known.1)
+    tree_ok (Plus a) row locals N d h ok sc known = tree_ok a row locals N d h ok sc known
+    tree_ok (Minus a) row locals N d h ok sc known = negates al cs u fr (site row locals) N d h (tree_code a (site row locals) d) (λ k. eval a (spot_of row locals) k) (tree_ok a row locals N d h ok sc known)
+    tree_ok (Not a) row locals N d h ok sc known = denies al cs u fr (site row locals) N d h (tree_code a (site row locals) d) (λ k. eval a (spot_of row locals) k) (tree_ok a row locals N d h ok sc known)
+    tree_ok (Binary op.Or a b) row locals N d h ok sc known = disjoins al cs u fr (site row locals) N d h _ _ (λ k. eval a (spot_of row locals) k) (λ k. eval b (spot_of row locals) k) (tree_ok a row locals N d h ok sc known.0) (tree_ok b row locals N d h ok sc known.1)
+    tree_ok (Binary op.And a b) row locals N d h ok sc known = conjoins al cs u fr (site row locals) N d h _ _ (λ k. eval a (spot_of row locals) k) (λ k. eval b (spot_of row locals) k) (tree_ok a row locals N d h ok sc known.0) (tree_ok b row locals N d h ok sc known.1)
+    tree_ok (Binary op.Equal a b) row locals N d h ok sc known = combines al cs u fr (site row locals) N d h op.Equal (by_kind (form_kind (among (site row locals)) a) instruction.Eq instruction.EqTruth) _ _ (λ k. eval a (spot_of row locals) k) (λ k. eval b (spot_of row locals) k) (λ v. refl) (equal_acts (form_kind (among (site row locals)) a) row) (tree_ok a row locals N d h ok sc known.0) (tree_ok b row locals N d h ok sc known.1)
+    tree_ok (Binary op.NotEqual a b) row locals N d h ok sc known = combines al cs u fr (site row locals) N d h op.NotEqual (by_kind (form_kind (among (site row locals)) a) instruction.Ne instruction.NeTruth) _ _ (λ k. eval a (spot_of row locals) k) (λ k. eval b (spot_of row locals) k) (λ v. refl) (not_equal_acts (form_kind (among (site row locals)) a) row) (tree_ok a row locals N d h ok sc known.0) (tree_ok b row locals N d h ok sc known.1)
+    tree_ok (Binary op.Less a b) row locals N d h ok sc known = combines al cs u fr (site row locals) N d h op.Less instruction.Lt _ _ (λ k. eval a (spot_of row locals) k) (λ k. eval b (spot_of row locals) k) (λ v. refl) (λ s. refl) (tree_ok a row locals N d h ok sc known.0) (tree_ok b row locals N d h ok sc known.1)
+    tree_ok (Binary op.Greater a b) row locals N d h ok sc known = combines al cs u fr (site row locals) N d h op.Greater instruction.Gt _ _ (λ k. eval a (spot_of row locals) k) (λ k. eval b (spot_of row locals) k) (λ v. refl) (λ s. refl) (tree_ok a row locals N d h ok sc known.0) (tree_ok b row locals N d h ok sc known.1)
+    tree_ok (Binary op.LessOrEqual a b) row locals N d h ok sc known = combines al cs u fr (site row locals) N d h op.LessOrEqual instruction.Le _ _ (λ k. eval a (spot_of row locals) k) (λ k. eval b (spot_of row locals) k) (λ v. refl) (λ s. refl) (tree_ok a row locals N d h ok sc known.0) (tree_ok b row locals N d h ok sc known.1)
+    tree_ok (Binary op.GreaterOrEqual a b) row locals N d h ok sc known = combines al cs u fr (site row locals) N d h op.GreaterOrEqual instruction.Ge _ _ (λ k. eval a (spot_of row locals) k) (λ k. eval b (spot_of row locals) k) (λ v. refl) (λ s. refl) (tree_ok a row locals N d h ok sc known.0) (tree_ok b row locals N d h ok sc known.1)
+    tree_ok (Binary op.Plus a b) row locals N d h ok sc known = combines al cs u fr (site row locals) N d h op.Plus instruction.Add _ _ (λ k. eval a (spot_of row locals) k) (λ k. eval b (spot_of row locals) k) (λ v. refl) (λ s. refl) (tree_ok a row locals N d h ok sc known.0) (tree_ok b row locals N d h ok sc known.1)
+    tree_ok (Binary op.Minus a b) row locals N d h ok sc known = combines al cs u fr (site row locals) N d h op.Minus instruction.Sub _ _ (λ k. eval a (spot_of row locals) k) (λ k. eval b (spot_of row locals) k) (λ v. refl) (λ s. refl) (tree_ok a row locals N d h ok sc known.0) (tree_ok b row locals N d h ok sc known.1)
+    tree_ok (Binary op.Times a b) row locals N d h ok sc known = combines al cs u fr (site row locals) N d h op.Times instruction.Mul _ _ (λ k. eval a (spot_of row locals) k) (λ k. eval b (spot_of row locals) k) (λ v. refl) (λ s. refl) (tree_ok a row locals N d h ok sc known.0) (tree_ok b row locals N d h ok sc known.1)
+    tree_ok (Binary op.Power a b) row locals N d h ok sc known = combines al cs u fr (site row locals) N d h op.Power instruction.Pow _ _ (λ k. eval a (spot_of row locals) k) (λ k. eval b (spot_of row locals) k) (λ v. refl) (λ s. refl) (tree_ok a row locals N d h ok sc known.0) (tree_ok b row locals N d h ok sc known.1)
 
-    pub trees_ok : (es : Trees) (row : ℕ) (locals : Names) (N d : ℕ) (h : Slots) → EnterOk al p cs u fr enter N → AreValues es (site row locals) → EvaluatesAll al cs u fr (site row locals) N d h (count es) (trees_code es (site row locals) d) (λ k. values es (spot_of row locals) k)
-    trees_ok no_trees row locals N d h ok known = no_values al cs u fr (site row locals) N d h
-    trees_ok (e then es) row locals N d h ok known =
-        more_values al cs u fr (site row locals) N d h (count es) (tree_code e (site row locals) d) (trees_code es (site row locals) d) (λ k. eval e (spot_of row locals) k) (λ k. values es (spot_of row locals) k) (tree_ok e row locals N d h ok known.0) (trees_ok es row locals N d h ok known.1)
+    pub trees_ok : (es : Trees) (row : ℕ) (locals : Names) (N d : ℕ) (h : Slots) → EnterOk al p cs u fr enter N → Slotted names answer locals → AreValues es (site row locals) → EvaluatesAll al cs u fr (site row locals) N d h (count es) (trees_code es (site row locals) d) (λ k. values es (spot_of row locals) k)
+    trees_ok no_trees row locals N d h ok sc known = no_values al cs u fr (site row locals) N d h
+    trees_ok (e then es) row locals N d h ok sc known =
+        more_values al cs u fr (site row locals) N d h (count es) (tree_code e (site row locals) d) (trees_code es (site row locals) d) (λ k. eval e (spot_of row locals) k) (λ k. values es (spot_of row locals) k) (tree_ok e row locals N d h ok sc known.0) (trees_ok es row locals N d h ok sc known.1)
 
-    pub arguments_ok : (es : Trees) (params : List Formal) (row : ℕ) (locals : Names) (N d : ℕ) (h : Slots) → EnterOk al p cs u fr enter N → AreArguments es params (site row locals)
+    pub arguments_ok : (es : Trees) (params : List Formal) (row : ℕ) (locals : Names) (N d : ℕ) (h : Slots) → EnterOk al p cs u fr enter N → Slotted names answer locals → AreArguments es params (site row locals)
         → (pc end : ℕ) (s : Store) (slots : Slots) (stack : List Value) (k : List Passed → Then) → IsCodeAt Lines pc (arguments_code es params (site row locals) d) end → Same names d h s slots → TakesPassed (site row locals) N d h end stack es params k
         → Reaches al cs N (here u fr pc stack slots s.used) (args es params (spot_of row locals) k s)
-    arguments_ok no_trees params row locals N d h ok known pc end s slots stack k has same go =
+    arguments_ok no_trees params row locals N d h ok sc known pc end s slots stack k has same go =
         let z : d ≡ d + 0 = omega arith in
         moved al cs u fr N pc end stack slots s.used _ has (go [] h s slots (λ i b. refl) (subst (λ n. Same names n h s slots) z same) tt)
-    arguments_ok (e then es) [] row locals N d h ok known pc end s slots stack k has same go =
+    arguments_ok (e then es) [] row locals N d h ok sc known pc end s slots stack k has same go =
         let z : d ≡ d + 0 = omega arith in
         moved al cs u fr N pc end stack slots s.used _ has (go [] h s slots (λ i b. refl) (subst (λ n. Same names n h s slots) z same) tt)
-    arguments_ok (e then es) (x ∷ params) row locals N d h ok known pc end s slots stack k has same go =
+    arguments_ok (e then es) (x ∷ params) row locals N d h ok sc known pc end s slots stack k has same go =
         let t = site row locals in
         let m = keeps x.bounds x.mode e in
         let w = parts Lines pc (argument_code x.bounds x.mode (tree_code e t d) (place_code e t d) (read_code e t d)) _ end has in
         let z : d + m + all_keep es params ≡ d + (m + all_keep es params) = omega arith in
-        argument_ok x.bounds x.mode e row locals N d h (λ k1. tree_ok e row locals N d h ok k1) (λ k1. place_ok e row locals N d h ok k1) known.0 pc w.0 s slots stack _ w.1 same
-        (λ a h1 s1 slots1 agree same1 match. arguments_ok es params row locals N (d + m) h1 ok known.1 w.0 end s1 slots1 (onto (pushed a) stack) _ w.2 same1
+        argument_ok x.bounds x.mode e row locals N d h sc (λ k1. tree_ok e row locals N d h ok sc k1) (λ k1. place_ok e row locals N d h ok sc k1) known.0 pc w.0 s slots stack _ w.1 same
+        (λ a h1 s1 slots1 agree same1 match. arguments_ok es params row locals N (d + m) h1 ok sc known.1 w.0 end s1 slots1 (onto (pushed a) stack) _ w.2 same1
         (λ more h2 s2 slots2 agree2 same2 match2. subst (λ l. Reaches al cs N (here u fr end l slots2 s2.used) (k (a ∷ more) s2)) (onto_both (pushed a) (all_pushed more) stack)
         (go (a ∷ more) h2 s2 slots2 (λ i b. agree2 i (omega arith) ∙ agree i b) (subst (λ n. Same names n h2 s2 slots2) z same2) (
           matches_more x.mode names (d + m) (d + (m + all_keep es params)) h1 h2 a (call_place x.bounds x.mode e t d) (omega arith) agree2 match,
           subst (λ n. MatchAll names n h2 params more (call_places es params t (d + m))) z match2,
         ))))
 
-    pub place_ok : (e : Tree) (row : ℕ) (locals : Names) (N d : ℕ) (h : Slots) → EnterOk al p cs u fr enter N → IsPlace e (site row locals)
+    pub place_ok : (e : Tree) (row : ℕ) (locals : Names) (N d : ℕ) (h : Slots) → EnterOk al p cs u fr enter N → Slotted names answer locals → IsPlace e (site row locals)
         → (pc end : ℕ) (s : Store) (slots : Slots) (stack : List Value) (k : Spot → Then) → IsCodeAt Lines pc (place_code e (site row locals) d) end → Same names d h s slots → TakesSpot (site row locals) N d h end stack e k
         → Reaches al cs N (here u fr pc stack slots s.used) (fixes e (spot_of row locals) k s)
-    place_ok (Named x) row locals N d h ok known pc end s slots stack k has same go =
+    place_ok (Named x) row locals N d h ok sc known pc end s slots stack k has same go =
         let z : d ≡ d + 0 = omega arith in
-        moved al cs u fr N pc end stack slots s.used _ has (go (AtVariable (Local x)) h s slots (λ i b. refl) (subst (λ n. Same names n h s slots) z same) (refl, known))
-    place_ok (Element x es) row locals N d h ok known pc end s slots stack k has same go =
-        fixes_element al cs u fr (site row locals) x (count es) N d h (trees_code es (site row locals) d) (λ k1. values es (spot_of row locals) k1) known.0 (trees_ok es row locals N d h ok known.1) pc end s slots stack k has same
-        (λ index h1 s1 slots1 agree same1 indexed. go (AtElement x index) h1 s1 slots1 agree same1 (refl, known.0, indexed))
-    place_ok (Number z) row locals N d h ok known pc end s slots stack k has same go = absurd known
-    place_ok (TruthOf b) row locals N d h ok known pc end s slots stack k has same go = absurd known
-    place_ok Answer row locals N d h ok known pc end s slots stack k has same go = absurd known
-    place_ok (Call f es) row locals N d h ok known pc end s slots stack k has same go = absurd known
-    place_ok (Plus a) row locals N d h ok known pc end s slots stack k has same go = absurd known
-    place_ok (Minus a) row locals N d h ok known pc end s slots stack k has same go = absurd known
-    place_ok (Not a) row locals N d h ok known pc end s slots stack k has same go = absurd known
-    place_ok (Binary o a b) row locals N d h ok known pc end s slots stack k has same go = absurd known
+        moved al cs u fr N pc end stack slots s.used _ has (go (AtVariable (Local x)) h s slots (λ i b. refl) (subst (λ n. Same names n h s slots) z same) (refl, has_slot names answer locals sc x known))
+    place_ok (Element x es) row locals N d h ok sc known pc end s slots stack k has same go =
+        fixes_element al cs u fr (site row locals) x (count es) N d h (trees_code es (site row locals) d) (λ k1. values es (spot_of row locals) k1) (has_slot names answer locals sc x known.0) (trees_ok es row locals N d h ok sc known.1) pc end s slots stack k has same
+        (λ index h1 s1 slots1 agree same1 indexed. go (AtElement x index) h1 s1 slots1 agree same1 (refl, has_slot names answer locals sc x known.0, indexed))
+    place_ok (Number z) row locals N d h ok sc known pc end s slots stack k has same go = absurd known
+    place_ok (TruthOf b) row locals N d h ok sc known pc end s slots stack k has same go = absurd known
+    place_ok Answer row locals N d h ok sc known pc end s slots stack k has same go = absurd known
+    place_ok (Call f es) row locals N d h ok sc known pc end s slots stack k has same go = absurd known
+    place_ok (Plus a) row locals N d h ok sc known pc end s slots stack k has same go = absurd known
+    place_ok (Minus a) row locals N d h ok sc known pc end s slots stack k has same go = absurd known
+    place_ok (Not a) row locals N d h ok sc known pc end s slots stack k has same go = absurd known
+    place_ok (Binary o a b) row locals N d h ok sc known pc end s slots stack k has same go = absurd known
