@@ -17,6 +17,11 @@ pub mod LocalsHaveSlots
 pub mod SameCallees
 pub mod TypedValues
 pub mod FaultlessPrograms
+pub mod LineChanged
+pub mod SlotsAdded
+pub mod NamesBehind
+pub mod AlgorithmInFront
+pub mod ProgramMade
 pub mod KindsAtPlaces
 pub mod CodePieces
 pub mod LinesFit
@@ -29,3 +34,12 @@ pub mod ValidCode
 pub mod EachRun
 pub mod RunsGrow
 pub mod CommandsAnswered
+pub mod CodeInFront
+pub mod ArgumentsInFront
+pub mod PlacesFound
+pub mod CallsInFront
+pub mod NamesBefore
+pub mod BlocksInFront
+pub mod LoopsInFront
+pub mod ChoicesInFront
+pub mod SimpleInFront

@@ -13,15 +13,18 @@ use Rattle.kumir_meaning.specs.OrderRun.{adding}
 use Rattle.kumir_meaning.specs.CallsRun.{swapping}
 use Rattle.kumir_meaning.specs.Runs.{Act, Printed, Sent, Awaiting, Trace, IsPrefix}
 use Rattle.stack_code.specs.CodeRuns.{CodeRun}
+use Rattle.stack_code.specs.declared.unit.CodeUnit.{CodeUnit}
 use Rattle.stack_code.specs.Validity.{IsValid}
 use Rattle.type_check.specs.Margin.{program_faults}
 use Rattle.kumir_compiler.specs.Code.{code_of, entry_of}
 use Rattle.kumir_compiler.specs.Compilable.{IsCompilable}
 
--- on all inputs and replies and within each number of steps the code runs as the program means, from the first algorithm on
+-- on all inputs and replies and within each number of steps these units run as the program means, from the first algorithm on
+abbrev pub RunsAs : List CodeUnit → Program → Type 0
+RunsAs units p = (inputs : List Value) (replies : List Reply) (n : ℕ) → CodeRun units 0 inputs replies n (run p inputs replies n)
+
 abbrev pub CodeMeansTheProgram : Type 0
-CodeMeansTheProgram =
-    (p : Program) → IsCompilable p → (inputs : List Value) (replies : List Reply) (n : ℕ) → CodeRun (code_of p) 0 inputs replies n (run p inputs replies n)
+CodeMeansTheProgram = (p : Program) → IsCompilable p → RunsAs (code_of p) p
 
 -- the premise holds of the sample programs with calls in an expression, and with names and elements as `аргрез` arguments
 abbrev pub SamplesAreCompilable : Type 0

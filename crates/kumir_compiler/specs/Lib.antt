@@ -7,3 +7,11 @@ pub mod UnitCode
 pub mod Code
 pub mod Compilable
 pub mod Laws
+pub mod PendingCode
+pub mod FirstPlaces
+pub mod NamesSeen
+pub mod AlgorithmsSeen
+pub mod CallsSeen
+pub mod SitesSeen
+pub mod BlocksPut
+pub mod UnitsSeen
