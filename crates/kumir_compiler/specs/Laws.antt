@@ -10,14 +10,17 @@ use Rattle.kumir_meaning.specs.OrderRun.{adding}
 use Rattle.kumir_meaning.specs.CallsRun.{swapping}
 use Rattle.kumir_meaning.specs.Runs.{IsPrefix}
 use Rattle.stack_code.specs.CodeRuns.{CodeRun}
+use Rattle.stack_code.specs.declared.unit.CodeUnit.{CodeUnit}
 use Rattle.type_check.specs.Margin.{program_faults}
 use Rattle.kumir_compiler.specs.Code.{code_of}
 use Rattle.kumir_compiler.specs.Compilable.{IsCompilable}
 
--- on all inputs and replies and within each number of steps the code runs as the program means, from the first algorithm on
+-- on all inputs and replies and within each number of steps these units run as the program means, from the first algorithm on
+abbrev pub RunsAs : List CodeUnit → Program → Type 0
+RunsAs units p = (inputs : List Value) (replies : List Reply) (n : ℕ) → CodeRun units 0 inputs replies n (run p inputs replies n)
+
 abbrev pub CodeMeansTheProgram : Type 0
-CodeMeansTheProgram =
-    (p : Program) → IsCompilable p → (inputs : List Value) (replies : List Reply) (n : ℕ) → CodeRun (code_of p) 0 inputs replies n (run p inputs replies n)
+CodeMeansTheProgram = (p : Program) → IsCompilable p → RunsAs (code_of p) p
 
 -- on more steps and more replies the acts of a program begin with those that it has on less
 abbrev pub MeaningOnlyGrows : Type 0
