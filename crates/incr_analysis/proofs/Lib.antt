@@ -5,3 +5,4 @@ pub mod Seen
 pub mod Sounds
 pub mod Wholes
 pub mod OneFullAnalysis
+pub mod Preludes

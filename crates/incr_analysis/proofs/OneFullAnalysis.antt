@@ -10,7 +10,7 @@ use Rattle.algo_parser.specs.Laws.{EachIsRead, OneReading}
 use Rattle.type_check.specs.Margin.{program_faults, IsMarginOf}
 use Rattle.type_check.specs.Laws.{EachHasMargin, HasOneMargin}
 use Rattle.incr_analysis.specs.Full.{Along, lines_in, IsReadAt, AreUnits, Full}
-use Rattle.incr_analysis.specs.Laws.{EachHasAnalysis, OneAnalysis}
+use Rattle.incr_analysis.specs.Laws.{EachHasUnits, OneListOfUnits, EachHasAnalysis, OneAnalysis}
 
 -- ---- units along their spans
 
@@ -73,12 +73,17 @@ module _ (each : EachIsRead) (lines : List (List ℕ)) where
       let rest = along_units (IsReadAt lines) spans (each_read (1 + s.count) spans (omega arith) parted.1 parted.2.1) in
       (first.0 ∷ rest.0, (first.1, rest.1))
 
-pub each_has_analysis : EachHasSpans → EachIsRead → EachHasMargin → EachHasAnalysis
-each_has_analysis spans read margin lines =
+pub each_has_units : EachHasSpans → EachIsRead → EachHasUnits
+each_has_units spans read lines =
     let s = spans lines in
     let units = read_all read lines s.0 s.1 in
+    (units.0, record { spans = s.0; parted = s.1; read = units.1 })
+
+pub each_has_analysis : EachHasSpans → EachIsRead → EachHasMargin → EachHasAnalysis
+each_has_analysis spans read margin lines =
+    let units = each_has_units spans read lines in
     let marks = margin (program_faults units.0) in
-    (marks.0, (units.0, record { are_units = record { spans = s.0; parted = s.1; read = units.1 }; marked = marks.1 }))
+    (marks.0, (units.0, record { are_units = units.1; marked = marks.1 }))
 
 -- ---- and no other one
 
@@ -88,7 +93,7 @@ same_read one lines prelude span u v a b =
     let known = one (lines_in lines span) prelude u.1 v.1 a.read b.read in
     (λ i. (place i, known i))
 
-one_program : OneListOfSpans → OneReading → (lines : List (List ℕ)) (a b : List (ℕ × Known)) → AreUnits lines a → AreUnits lines b → a ≡ b
+pub one_program : OneListOfSpans → OneReading → OneListOfUnits
 one_program spans one lines a b h k =
     let same = spans lines h.spans k.spans h.parted k.parted in
     same_along (IsReadAt lines) (same_read one lines) true k.spans a b (subst (λ ss. Along (IsReadAt lines) true ss a) same h.read) k.read

@@ -33,6 +33,10 @@ same_units seen units e = sym (units_seen units) ∙ ap units_in (sym e)
 pub shown_units : (a : AnalysedText) (version : ℕ) (lines : List (List ℕ)) (units : List PlacedUnit) (marks : List Mark) → record { version = version; text = lines; units = reads_of units; margin = marks } ≡ a → IsAnalysis lines (units_of units) marks → AreUnits a.text (units_in a.units)
 shown_units a version lines units marks is h = subst (λ (b : AnalysedText). AreUnits b.text (units_in b.units)) is (subst (AreUnits lines) (sym (units_seen units)) h.are_units)
 
+-- and its analysis is that of these units
+pub shown_analysis : (a : AnalysedText) (version : ℕ) (lines : List (List ℕ)) (units : List PlacedUnit) (marks : List Mark) → record { version = version; text = lines; units = reads_of units; margin = marks } ≡ a → IsAnalysis lines (units_of units) marks → IsAnalysis a.text (units_in a.units) marks
+shown_analysis a version lines units marks is h = subst (λ (b : AnalysedText). IsAnalysis b.text (units_in b.units) marks) is (subst (λ us. IsAnalysis lines us marks) (sym (units_seen units)) h)
+
 -- without a fault there is no mark
 pub no_marks : (marks : List Mark) → IsMarginOf [] marks → marks ≡ []
 no_marks [] margin = refl

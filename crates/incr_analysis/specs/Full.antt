@@ -1,5 +1,5 @@
 -- The full analysis of a text: from all its lines at once, its units, and of these its margin. docs/LANGUAGE.md, "The margin".
-use Rattle.std.specs.Prelude.{◌≡◌, ℕ, ◌+◌, ◌-◌, Bool, true, false, List, [], ◌∷◌, Option, Some, None, slice_range}
+use Rattle.std.specs.Prelude.{◌≡◌, ℕ, ◌+◌, ◌-◌, Bool, true, false, ◌||◌, List, [], ◌∷◌, Option, Some, None, slice_range}
 use Rattle.kumir_tree.specs.Part.{Head, Formal}
 use Rattle.kumir_tree.specs.Unit.{Known}
 use Rattle.margins.specs.declared.margin.Mark.{Mark}
@@ -50,3 +50,8 @@ takes_nothing (Some h) = is_empty h.params
 
 abbrev pub has_main : List (ℕ × Known) → Bool
 has_main units = takes_nothing (first_head units)
+
+-- the prelude makes a performer known
+abbrev pub knows_performer : List (ℕ × Known) → Bool
+knows_performer [] = false
+knows_performer (prelude ∷ units) = prelude.1.performers.robot || prelude.1.performers.pen

@@ -1,14 +1,17 @@
 //! A text with its full analysis.
 
-ghost use Rattle.std.specs.Prelude.{◌≡◌, [], IfOk, IfErr, OnOk};
+ghost use Rattle.std.specs.Prelude.{◌≡◌, ◌||◌, [], IfOk, IfErr, OnOk};
 ghost use Rattle.std.specs.Arc.{arc_value};
 ghost use Rattle.type_check.specs.Margin.{first_head};
 ghost use Rattle.type_rules.specs.Headers.{some_head_behind};
 ghost use Rattle.type_check.specs.Placed.{units_in};
-ghost use Rattle.incr_analysis.specs.Full.{AreUnits, Full, has_main};
+ghost use Rattle.kumir_tree.specs.Sound.{IsSound};
+ghost use Rattle.kumir_tree.specs.Units.{units_of, placed_of};
+ghost use Rattle.incr_analysis.specs.Full.{AreUnits, IsAnalysis, Full, has_main, knows_performer};
 ghost use Rattle.incr_analysis.specs.Answers.{IsRefusedWith};
 
-use kumir_tree::{Header, Units};
+use km_base::Performers;
+use kumir_tree::{Header, PlacedUnit, Units};
 use margins::Margin;
 use std::alloc::Global;
 use std::marker::Model;
@@ -46,6 +49,27 @@ impl Model for Analysed {
     ghost invariant = { λ a. IsSound (units_of a.units) × IsAnalysis (arc_value a.text) (units_of a.units) a.margin };
 }
 
+// The performers that a unit makes known.
+fn performers_of(unit: &PlacedUnit) -> Performers
+    ensures { result ≡ (placed_of unit.now).1.performers }
+{
+    unit.read.performers
+}
+
+// Whether the first of the units, the prelude, makes a performer known.
+#[tactic(auto, using(crate::proofs::Preludes::no_prelude))]
+fn knows_performer(units: &Units) -> bool
+    ensures { result ≡ knows_performer (units_of units.now) }
+{
+    match units.get(0) {
+        Some(prelude) => {
+            let known = performers_of(prelude);
+            known.robot || known.pen
+        }
+        None => false,
+    }
+}
+
 impl Analysed {
     /// The number of the version.
     pub fn version(&self) -> u32
@@ -66,6 +90,7 @@ impl Analysed {
     pub fn margin(&self) -> &Margin
         ensures same { result.now ≡ self.now.margin }
         ensures full { Full self.now.text result.now }
+        ensures analysis { IsAnalysis self.now.text (units_in self.now.units) result.now }
     {
         &self.margin
     }
@@ -75,6 +100,7 @@ impl Analysed {
     pub fn clean(&self, alloc: Global) -> Result<Clean, CleanRefusal>
         ensures same { IfOk result (λ clean. units_in clean ≡ units_in self.now.units) }
         ensures of_text { IfOk result (λ clean. AreUnits self.now.text (units_in clean)) }
+        ensures sound { IfOk result (λ clean. IsSound (units_in clean)) }
         ensures without_fault { OnOk result (self.now.margin ≡ []) }
         ensures refused { IfErr result (λ refusal. IsRefusedWith self.now.margin refusal) }
     {
@@ -100,5 +126,14 @@ impl Analysed {
             Some(header) => header.params.is_empty(),
             None => false,
         }
+    }
+
+    /// Whether the prelude makes a performer known.
+    #[tactic(auto, using(crate::proofs::Preludes::known_seen))]
+    pub fn knows_performer(&self) -> bool
+        ensures known { result ≡ knows_performer (units_in self.now.units) }
+        ensures of_text { AreUnits self.now.text (units_in self.now.units) }
+    {
+        knows_performer(&self.units)
     }
 }

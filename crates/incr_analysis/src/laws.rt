@@ -1,6 +1,6 @@
 //! What is one only. This call does nothing.
 
-ghost use Rattle.incr_analysis.specs.Laws.{EachHasAnalysis, OneAnalysis};
+ghost use Rattle.incr_analysis.specs.Laws.{EachHasUnits, OneListOfUnits, EachHasAnalysis, OneAnalysis};
 
 use algo_parser::one_reading;
 use line_pieces::one_list_of_spans;
@@ -14,4 +14,13 @@ pub fn one_analysis()
     one_list_of_spans();
     one_reading();
     one_margin();
+}
+
+/// A text has exactly one list of units: for its lines there is one, and any two are equal.
+pub fn one_list_of_units()
+    ensures some { EachHasUnits }
+    ensures only { OneListOfUnits }
+{
+    one_list_of_spans();
+    one_reading();
 }

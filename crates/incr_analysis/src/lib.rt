@@ -8,5 +8,5 @@ mod stop;
 
 pub use analysed::Analysed;
 pub use analyser::{Analyser, Analysis};
-pub use laws::one_analysis;
+pub use laws::{one_analysis, one_list_of_units};
 pub use stop::{NeverStop, Stop};

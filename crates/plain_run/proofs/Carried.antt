@@ -1,5 +1,5 @@
 -- Requests carried out one after another, and the print of their answers.
-use Rattle.std.proofs.Common.{◌≡◌, ◌≢◌, ℕ, List, [], ◌∷◌, ◌++◌, Option, Some, None, sym, ap, subst, ◌∙◌, refl, append_assoc, append-nil}
+use Rattle.std.proofs.Common.{◌≡◌, ◌≢◌, ℕ, ◌+◌, ◌<◌, ◌≤◌, Bool, true, false, length, List, [], ◌∷◌, ◌++◌, Option, Some, None, sym, ap, subst, ◌∙◌, refl, append_assoc, append-nil, length-append, arith}
 use Rattle.km_ports.specs.Ports.{SinkState, PutsInto}
 use Rattle.km_ports.proofs.PortLaws.{PutsInto-nothing, PutsInto-then}
 use Rattle.text_versions.specs.declared.edit.Edit.{Edit}
@@ -14,21 +14,28 @@ use Rattle.text_versions.specs.declared.versions.ApplyRefusal.TheVariants as ref
 use Rattle.text_versions.specs.Texts.{text_limits}
 use Rattle.text_versions.specs.Edits.{answer_to}
 use Rattle.script_lines.specs.declared.request.Ask.{Ask}
+use Rattle.script_lines.specs.declared.request.Ask.TheVariants as ask
 use Rattle.script_lines.specs.Requests.{whole, requests}
 use Rattle.script_lines.specs.Reader.{answered}
 use Rattle.transcript.specs.declared.entry.Entry.TheVariants as entry
+use Rattle.kumir_tree.specs.Unit.{Known}
+use Rattle.kumir_values.specs.declared.value.Value.{Value}
+use Rattle.text_versions.specs.Edits.{text_after}
+use Rattle.incr_analysis.specs.Full.{AreUnits, knows_performer}
+use Rattle.plain_run.specs.RunEntries.{run_entries}
+use Rattle.plain_run.specs.Kept.{Kept}
 use Rattle.plain_run.specs.Plain.{PutsEntries}
-use Rattle.plain_run.specs.Carried.{IsNewestMargin, Alone, SaysEdit, Answers, Carries}
+use Rattle.plain_run.specs.Carried.{IsNewestMargin, Alone, with_edit, with_run, SaysEdit, TakesRun, RunsUnless, SaysRun, Answers, Carries}
 
-pub carries_none : (edits : List Edit) → Carries edits [] [] edits
+pub carries_none : (edits : Kept) → Carries edits [] [] edits
 unfolding Carries
 carries_none edits = (refl, refl)
 
-pub carries_one : (r : Request) (edits after : List Edit) (entries : List Entry) → Answers r.line r.ask edits entries after → Carries edits (r ∷ []) entries after
+pub carries_one : (r : Request) (edits after : Kept) (entries : List Entry) → Answers r.line r.ask edits entries after → Carries edits (r ∷ []) entries after
 unfolding Carries
 carries_one r edits after entries a = (entries, after, [], a, (refl, refl), sym (append-nil entries))
 
-pub carries_then : (xs ys : List Request) (before between after : List Edit) (first second : List Entry) → Carries before xs first between → Carries between ys second after → Carries before (xs ++ ys) (first ++ second) after
+pub carries_then : (xs ys : List Request) (before between after : Kept) (first second : List Entry) → Carries before xs first between → Carries between ys second after → Carries before (xs ++ ys) (first ++ second) after
 unfolding Carries
 carries_then [] ys before between after first second p q =
     subst (λ es. Carries before ys (es ++ second) after) (sym p.0) (subst (λ b. Carries b ys second after) p.1 q)
@@ -43,56 +50,80 @@ print_append xs ys = flat_map-append printed_entry xs ys
 pub put_behind : (xs ys : List Entry) (before between now : SinkState) → PutsInto before between (print xs) → PutsInto between now (print ys) → PutsInto before now (print (xs ++ ys))
 put_behind xs ys before between now p q = subst (PutsInto before now) (sym (print_append xs ys)) (PutsInto-then before between now (print xs) (print ys) p q)
 
-pub puts_carried : (xs ys : List Request) (a b c : List Edit) (before between now : SinkState) → PutsEntries (λ es. Carries a xs es b) before between → PutsEntries (λ es. Carries b ys es c) between now → PutsEntries (λ es. Carries a (xs ++ ys) es c) before now
+pub puts_carried : (xs ys : List Request) (a b c : Kept) (before between now : SinkState) → PutsEntries (λ es. Carries a xs es b) before between → PutsEntries (λ es. Carries b ys es c) between now → PutsEntries (λ es. Carries a (xs ++ ys) es c) before now
 puts_carried xs ys a b c before between now p q = (p.0 ++ q.0, carries_then xs ys a b c p.0 q.0 p.1 q.1, put_behind p.0 q.0 before between now p.2 q.2)
 
-pub puts_nothing : (edits : List Edit) (written : SinkState) → PutsEntries (λ es. Carries edits [] es edits) written written
+pub puts_nothing : (edits : Kept) (written : SinkState) → PutsEntries (λ es. Carries edits [] es edits) written written
 puts_nothing edits written = ([], carries_none edits, PutsInto-nothing written)
 
-pub puts_answer : (r : Request) (edits after : List Edit) (before now : SinkState) → PutsEntries (λ es. Answers r.line r.ask edits es after) before now → PutsEntries (λ es. Carries edits (r ∷ []) es after) before now
+pub puts_answer : (r : Request) (edits after : Kept) (before now : SinkState) → PutsEntries (λ es. Answers r.line r.ask edits es after) before now → PutsEntries (λ es. Carries edits (r ∷ []) es after) before now
 puts_answer r edits after before now p = (p.0, carries_one r edits after p.0 p.1, p.2)
 
 pub puts_one : (e : Entry) (before now : SinkState) → PutsInto before now (printed_entry e) → PutsInto before now (print (e ∷ []))
 puts_one e before now p = subst (PutsInto before now) (sym (append-nil (printed_entry e))) p
 
 -- one entry, and no edit is accepted
-pub puts_alone : (e : Entry) (edits : List Edit) (before now : SinkState) → PutsInto before now (printed_entry e) → PutsEntries (λ es. Alone e edits es edits) before now
+pub puts_alone : (e : Entry) (edits : Kept) (before now : SinkState) → PutsInto before now (printed_entry e) → PutsEntries (λ es. Alone e edits es edits) before now
 puts_alone e edits before now p = (e ∷ [], (refl, refl), puts_one e before now p)
 
 pub puts_margin : (edits : List Edit) (margin : Entry) (before now : SinkState) → IsNewestMargin edits margin → PutsInto before now (printed_entry margin) → PutsEntries (λ es. (m : Entry) × IsNewestMargin edits m × (es ≡ m ∷ [])) before now
 puts_margin edits margin before now m p = (margin ∷ [], (margin, m, refl), puts_one margin before now p)
 
 -- the answer to an edit that was accepted
-pub puts_edit : (edits after : List Edit) (e : Edit) (version : ℕ) (before between now : SinkState) → answer_to text_limits edits e ≡ Ok version → after ≡ edits ++ e ∷ [] → PutsInto before between (printed_entry (entry.Edit version)) → PutsEntries (λ es. (m : Entry) × IsNewestMargin after m × (es ≡ m ∷ [])) between now → PutsEntries (λ es. SaysEdit (answer_to text_limits edits e) edits e es after) before now
-puts_edit edits after e version before between now says accepted p q =
+pub puts_edit : (kept : Kept) (edits : List Edit) (e : Edit) (version : ℕ) (before between now : SinkState) → answer_to text_limits kept.edits e ≡ Ok version → edits ≡ kept.edits ++ e ∷ [] → PutsInto before between (printed_entry (entry.Edit version)) → PutsEntries (λ es. (m : Entry) × IsNewestMargin edits m × (es ≡ m ∷ [])) between now → PutsEntries (λ es. SaysEdit (answer_to text_limits kept.edits e) kept e es (record kept { edits = edits })) before now
+puts_edit kept edits e version before between now says accepted p q =
     let margin = q.1.0 in
+    let after : record kept { edits = edits } ≡ with_edit kept e = ap (λ es. record kept { edits = es }) accepted in
     let put : PutsInto between now (print (margin ∷ [])) = subst (λ es. PutsInto between now (print es)) q.1.2 q.2 in (
       entry.Edit version ∷ margin ∷ [],
-      subst (λ r. SaysEdit r edits e (entry.Edit version ∷ margin ∷ []) after) (sym says) (margin, q.1.1, accepted, refl),
+      subst (λ r. SaysEdit r kept e (entry.Edit version ∷ margin ∷ []) (record kept { edits = edits })) (sym says) (margin, q.1.1, after, refl),
       put_behind (entry.Edit version ∷ []) (margin ∷ []) before between now (puts_one (entry.Edit version) before between p) put,
     )
 
 -- the answer to one that was refused
-refused_so : (edits after : List Edit) (e : Edit) (r : ApplyRefusal) (before now : SinkState) → answer_to text_limits edits e ≡ Err r → after ≡ edits → PutsEntries (λ es. (edits : List Edit) → (e : Edit) → SaysEdit (Err r) edits e es edits) before now → PutsEntries (λ es. SaysEdit (answer_to text_limits edits e) edits e es after) before now
-refused_so edits after e r before now says same p =
-    (p.0, subst (λ answer. SaysEdit answer edits e p.0 after) (sym says) (subst (λ b. SaysEdit (Err r) edits e p.0 b) (sym same) (p.1 edits e)), p.2)
+refused_so : (kept : Kept) (edits : List Edit) (e : Edit) (r : ApplyRefusal) (before now : SinkState) → answer_to text_limits kept.edits e ≡ Err r → edits ≡ kept.edits → PutsEntries (λ es. (kept : Kept) → (e : Edit) → SaysEdit (Err r) kept e es kept) before now → PutsEntries (λ es. SaysEdit (answer_to text_limits kept.edits e) kept e es (record kept { edits = edits })) before now
+refused_so kept edits e r before now says same p =
+    let after : record kept { edits = edits } ≡ kept = ap (λ es. record kept { edits = es }) same in
+    (p.0, subst (λ answer. SaysEdit answer kept e p.0 (record kept { edits = edits })) (sym says) (subst (λ b. SaysEdit (Err r) kept e p.0 b) (sym after) (p.1 kept e)), p.2)
 
-pub puts_refused : (edits after : List Edit) (e : Edit) (r : ApplyRefusal) (before now : SinkState) → (r ≢ refusal.Memory → answer_to text_limits edits e ≡ Err r) → after ≡ edits → PutsEntries (λ es. (edits : List Edit) → (e : Edit) → SaysEdit (Err r) edits e es edits) before now → PutsEntries (λ es. SaysEdit (answer_to text_limits edits e) edits e es after) before now
-puts_refused edits after e refusal.Range before now says same p = refused_so edits after e refusal.Range before now (says (λ is. cc)) same p
-puts_refused edits after e refusal.TooLong before now says same p = refused_so edits after e refusal.TooLong before now (says (λ is. cc)) same p
-puts_refused edits after e refusal.TooMany before now says same p = refused_so edits after e refusal.TooMany before now (says (λ is. cc)) same p
-puts_refused edits after e refusal.Memory before now says same p = absurd (p.1 edits e)
+pub puts_refused : (kept : Kept) (edits : List Edit) (e : Edit) (r : ApplyRefusal) (before now : SinkState) → (r ≢ refusal.Memory → answer_to text_limits kept.edits e ≡ Err r) → edits ≡ kept.edits → PutsEntries (λ es. (kept : Kept) → (e : Edit) → SaysEdit (Err r) kept e es kept) before now → PutsEntries (λ es. SaysEdit (answer_to text_limits kept.edits e) kept e es (record kept { edits = edits })) before now
+puts_refused kept edits e refusal.Range before now says same p = refused_so kept edits e refusal.Range before now (says (λ is. cc)) same p
+puts_refused kept edits e refusal.TooLong before now says same p = refused_so kept edits e refusal.TooLong before now (says (λ is. cc)) same p
+puts_refused kept edits e refusal.TooMany before now says same p = refused_so kept edits e refusal.TooMany before now (says (λ is. cc)) same p
+puts_refused kept edits e refusal.Memory before now says same p = absurd (p.1 kept e)
 
 -- an entry that says of any edit that it was refused so
-pub puts_refusal : (x : Entry) (r : ApplyRefusal) (before now : SinkState) → ((edits : List Edit) → (e : Edit) → SaysEdit (Err r) edits e (x ∷ []) edits) → PutsInto before now (printed_entry x) → PutsEntries (λ es. (edits : List Edit) → (e : Edit) → SaysEdit (Err r) edits e es edits) before now
+pub puts_refusal : (x : Entry) (r : ApplyRefusal) (before now : SinkState) → ((kept : Kept) → (e : Edit) → SaysEdit (Err r) kept e (x ∷ []) kept) → PutsInto before now (printed_entry x) → PutsEntries (λ es. (kept : Kept) → (e : Edit) → SaysEdit (Err r) kept e es kept) before now
 puts_refusal x r before now says p = (x ∷ [], says, puts_one x before now p)
 
+-- ---- runs
+
+-- a run that was taken on, and its entries
+pub puts_run : (kept after : Kept) (units : List (ℕ × Known)) (inputs : List Value) (run version : ℕ) (before between now : SinkState) → run ≡ kept.runs + 1 → version ≡ length kept.edits → after ≡ with_run kept → PutsInto before between (printed_entry (entry.Run run version)) → PutsEntries (λ es. es ≡ run_entries kept.budget run inputs units) between now → PutsEntries (λ es. TakesRun kept units inputs es after) before now
+puts_run kept after units inputs run version before between now number newest then_kept p q =
+    let all : entry.Run run version ∷ q.0 ≡ entry.Run (kept.runs + 1) (length kept.edits) ∷ run_entries kept.budget (kept.runs + 1) inputs units =
+    ap (λ es. entry.Run run version ∷ es) q.1 ∙ (λ i. entry.Run (number i) (newest i) ∷ run_entries kept.budget (number i) inputs units) in (
+      entry.Run run version ∷ q.0,
+      (then_kept, all),
+      put_behind (entry.Run run version ∷ []) q.0 before between now (puts_one (entry.Run run version) before between p) q.2,
+    )
+
+-- one of a version that makes a performer known, and any other
+pub puts_no_run : (line : ℕ) (kept : Kept) (inputs : List Value) (units : List (ℕ × Known)) (known : Bool) (before now : SinkState) → known ≡ true → known ≡ knows_performer units → AreUnits (text_after kept.edits) units → PutsInto before now (printed_entry (entry.Bad line)) → PutsEntries (λ es. SaysRun line kept inputs es kept) before now
+puts_no_run line kept inputs units known before now does is are p =
+    let alone = puts_alone (entry.Bad line) kept before now p in
+    (alone.0, (units, are, subst (λ b. RunsUnless b line kept units inputs alone.0 kept) (sym does ∙ is) alone.1), alone.2)
+
+pub puts_next_run : (line : ℕ) (kept after : Kept) (inputs : List Value) (units : List (ℕ × Known)) (known : Bool) (before now : SinkState) → known ≡ false → known ≡ knows_performer units → AreUnits (text_after kept.edits) units → PutsEntries (λ es. TakesRun kept units inputs es after) before now → PutsEntries (λ es. SaysRun line kept inputs es after) before now
+puts_next_run line kept after inputs units known before now lacks is are p =
+    (p.0, (units, are, subst (λ b. RunsUnless b line kept units inputs p.0 after) (sym lacks ∙ is) p.1), p.2)
+
 -- what is asked for is this
-pub puts_ask : (line : ℕ) (a this : Ask) (edits after : List Edit) (before now : SinkState) → a ≡ this → PutsEntries (λ es. Answers line this edits es after) before now → PutsEntries (λ es. Answers line a edits es after) before now
+pub puts_ask : (line : ℕ) (a this : Ask) (edits after : Kept) (before now : SinkState) → a ≡ this → PutsEntries (λ es. Answers line this edits es after) before now → PutsEntries (λ es. Answers line a edits es after) before now
 puts_ask line a this edits after before now is p = subst (λ b. PutsEntries (λ es. Answers line b edits es after) before now) (sym is) p
 
 -- one more request is answered
-pub puts_next : (done : List Request) (r : Request) (a b c : List Edit) (before between now : SinkState) → PutsEntries (λ es. Carries a done es b) before between → PutsEntries (λ es. Answers r.line r.ask b es c) between now → PutsEntries (λ es. Carries a (done ++ r ∷ []) es c) before now
+pub puts_next : (done : List Request) (r : Request) (a b c : Kept) (before between now : SinkState) → PutsEntries (λ es. Carries a done es b) before between → PutsEntries (λ es. Answers r.line r.ask b es c) between now → PutsEntries (λ es. Carries a (done ++ r ∷ []) es c) before now
 puts_next done r a b c before between now p q = puts_carried done (r ∷ []) a b c before between now p (puts_answer r b c between now q)
 
 -- the last of what waits is the next of all
@@ -106,12 +137,12 @@ pub none_waiting : (all done waiting : List Request) → all ≡ done ++ reverse
 none_waiting all done waiting e w = sym (e ∙ ap (λ t. done ++ reverse t) w ∙ append-nil done)
 
 -- the request that the end of a script completes
-pub puts_last : (fed : List ℕ) (last : Option Request) (r : Request) (edits after : List Edit) (before now : SinkState) → last ≡ Some r → requests fed ≡ whole fed ++ answered last → PutsEntries (λ es. Answers r.line r.ask edits es after) before now → PutsEntries (λ es. (l : List Request) × (requests fed ≡ whole fed ++ l) × Carries edits l es after) before now
+pub puts_last : (fed : List ℕ) (last : Option Request) (r : Request) (edits after : Kept) (before now : SinkState) → last ≡ Some r → requests fed ≡ whole fed ++ answered last → PutsEntries (λ es. Answers r.line r.ask edits es after) before now → PutsEntries (λ es. (l : List Request) × (requests fed ≡ whole fed ++ l) × Carries edits l es after) before now
 puts_last fed last r edits after before now is all p =
     let one = puts_answer r edits after before now p in
     (one.0, (r ∷ [], all ∙ ap (λ o. whole fed ++ answered o) is, one.1), one.2)
 
-pub puts_no_last : (fed : List ℕ) (last : Option Request) (edits : List Edit) (written : SinkState) → last ≡ None → requests fed ≡ whole fed ++ answered last → PutsEntries (λ es. (l : List Request) × (requests fed ≡ whole fed ++ l) × Carries edits l es edits) written written
+pub puts_no_last : (fed : List ℕ) (last : Option Request) (edits : Kept) (written : SinkState) → last ≡ None → requests fed ≡ whole fed ++ answered last → PutsEntries (λ es. (l : List Request) × (requests fed ≡ whole fed ++ l) × Carries edits l es edits) written written
 puts_no_last fed last edits written is all = ([], ([], all ∙ ap (λ o. whole fed ++ answered o) is, carries_none edits), PutsInto-nothing written)
 
 -- what holds of an answer that came
@@ -122,3 +153,40 @@ on_ok_here (Err e) x is p = absurd (let none : ⊥ = cc in none)
 pub if_ok_here : {T E : Type 0} (P : T → Type 0) (r : Result T E) (x : T) → r ≡ Ok x → IfOk r P → P x
 if_ok_here P (Ok y) x is p = subst P (let same : y ≡ x = cc in same) p
 if_ok_here P (Err e) x is p = absurd (let none : ⊥ = cc in none)
+
+-- ---- how many runs there are
+
+unless_few : (b : Bool) (line : ℕ) (kept after : Kept) (units : List (ℕ × Known)) (inputs : List Value) (entries : List Entry) → RunsUnless b line kept units inputs entries after → after.runs ≤ kept.runs + 1
+unless_few true line kept after units inputs entries a = omega (arith, ap (λ k. k.runs) a.1)
+unless_few false line kept after units inputs entries a = omega (arith, ap (λ k. k.runs) a.0)
+
+edit_few : (o : Result ℕ ApplyRefusal) (kept after : Kept) (e : Edit) (entries : List Entry) → SaysEdit o kept e entries after → after.runs ≤ kept.runs + 1
+edit_few (Ok v) kept after e entries a = omega (arith, ap (λ k. k.runs) a.2)
+edit_few (Err refusal.Range) kept after e entries a = omega (arith, ap (λ k. k.runs) a.1)
+edit_few (Err refusal.TooLong) kept after e entries a = omega (arith, ap (λ k. k.runs) a.1)
+edit_few (Err refusal.TooMany) kept after e entries a = omega (arith, ap (λ k. k.runs) a.1)
+edit_few (Err refusal.Memory) kept after e entries a = absurd a
+
+-- a request takes one run on at most
+answer_few : (line : ℕ) (a : Ask) (kept after : Kept) (entries : List Entry) → Answers line a kept entries after → after.runs ≤ kept.runs + 1
+answer_few line (ask.Edit e) kept after entries a = edit_few (answer_to text_limits kept.edits e) kept after e entries a
+answer_few line (ask.Field lines) kept after entries a = omega (arith, ap (λ k. k.runs) a.1)
+answer_few line (ask.Run inputs) kept after entries a = unless_few (knows_performer a.0) line kept after a.0 inputs entries a.2
+answer_few line ask.Stop kept after entries a = omega (arith, ap (λ k. k.runs) a.1)
+answer_few line ask.Wait kept after entries a = omega (arith, ap (λ k. k.runs) a.1)
+answer_few line ask.Bad kept after entries a = omega (arith, ap (λ k. k.runs) a.1)
+
+pub carries_few : (requests : List Request) (kept after : Kept) (entries : List Entry) → Carries kept requests entries after → after.runs ≤ kept.runs + length requests
+unfolding Carries
+carries_few [] kept after entries c = omega (arith, ap (λ k. k.runs) c.1)
+carries_few (r ∷ requests) kept after entries c =
+    omega (arith, answer_few r.line r.ask kept c.1 c.0 c.3, carries_few requests c.1 after c.2 c.4)
+
+-- while a request waits, fewer runs were taken on than there are requests
+pub still_few : (all done waiting : List Request) (r : Request) (left : List Request) (kept now : Kept) (before between : SinkState) (most : ℕ) → all ≡ done ++ reverse waiting → waiting ≡ left ++ r ∷ [] → PutsEntries (λ es. Carries kept done es now) before between → kept.runs + length all < most → now.runs < most
+still_few all done waiting r left kept now before between most e w put few =
+    omega (arith, carries_few done kept now put.0 put.1, ap length e, length-append done (reverse waiting), few)
+
+-- the same entries under another name
+pub puts_same : (xs ys : List Entry) (before now : SinkState) → xs ≡ ys → PutsEntries (λ es. es ≡ xs) before now → PutsEntries (λ es. es ≡ ys) before now
+puts_same xs ys before now same p = (p.0, p.1 ∙ same, p.2)

@@ -9,7 +9,6 @@ use Rattle.km_ports.proofs.PortLaws.{TakesFrom-then, TakesFrom-nothing, IsWhole-
 use Rattle.km_ports.specs.declared.status.Status.{Status}
 use Rattle.km_ports.specs.declared.status.Status.TheVariants as status
 use Rattle.km_ports.specs.declared.status.Excess.TheVariants as excess
-use Rattle.text_versions.specs.declared.edit.Edit.{Edit}
 use Rattle.script_lines.specs.declared.request.Request.{Request}
 use Rattle.script_lines.specs.Requests.{whole, requests}
 use Rattle.transcript.specs.declared.entry.Entry.{Entry}
@@ -17,10 +16,12 @@ use Rattle.transcript.specs.declared.entry.Entry.TheVariants as entry
 use Rattle.transcript.specs.Print.{print, printed_entry}
 use Rattle.plain_run.specs.Runs.{Ports, ports, NothingFailed}
 use Rattle.plain_run.specs.Ending.{StopsPut}
+use Rattle.plain_run.specs.Kept.{Kept, begun_with}
 use Rattle.plain_run.specs.Plain.{IsPlain, PutsEntries}
 use Rattle.plain_run.specs.Carried.{Carries, IsNewestMargin, StopsFor, HasCarried}
 use Rattle.plain_run.specs.Scripts.{IsScriptRun}
-use Rattle.plain_run.proofs.Carried.{puts_carried, puts_nothing, put_behind}
+use Rattle.plain_run.proofs.Carried.{puts_carried, puts_nothing, put_behind, carries_few}
+use Rattle.plain_run.proofs.FewRequests.{whole_few}
 use Rattle.plain_run.proofs.Answered.{plain_of}
 use Rattle.plain_run.proofs.Told.{whole_told, long_told}
 use Rattle.plain_run.proofs.Faults.{no_faults, faults_of_read, faults_of_write}
@@ -64,7 +65,7 @@ put_stops T U most i0 i1 o0 o1 o2 status.Faults i o c = absurd c
 put_stops T U most i0 i1 o0 o1 o2 status.Words i o c = absurd c
 
 -- a part that carried a piece behind one that carried others
-pub carried_more : (i0 i1 i2 : SourceState) (o0 o1 o2 : SinkState) (fed piece : List ℕ) (a b c : List Edit) → HasCarried (ports i0 i1 o0 o1) [] fed a b → HasCarried (ports i1 i2 o1 o2) fed piece b c → HasCarried (ports i0 i2 o0 o2) [] (fed ++ piece) a c
+pub carried_more : (i0 i1 i2 : SourceState) (o0 o1 o2 : SinkState) (fed piece : List ℕ) (a b c : Kept) → HasCarried (ports i0 i1 o0 o1) [] fed a b → HasCarried (ports i1 i2 o1 o2) fed piece b c → HasCarried (ports i0 i2 o0 o2) [] (fed ++ piece) a c
 carried_more i0 i1 i2 o0 o1 o2 fed piece a b c p q = record {
   taken = TakesFrom-then i0 i1 i2 fed piece p.taken q.taken;
   more = p.more ++ q.more;
@@ -73,14 +74,14 @@ carried_more i0 i1 i2 o0 o1 o2 fed piece a b c p q = record {
 }
 
 -- the whole run
-pub whole_plain : (margin : Entry) (fed : List ℕ) (more last : List Request) (b c : List Edit) (w0 w1 w2 w3 w4 : SinkState) → IsNewestMargin [] margin → PutsInto w0 w1 (print (margin ∷ [])) → whole fed ≡ whole [] ++ more → requests fed ≡ whole fed ++ last → PutsEntries (λ es. Carries [] more es b) w1 w2 → PutsEntries (λ es. Carries b last es c) w2 w3 → PutsInto w3 w4 (printed_entry entry.Bye) → PutsEntries (IsPlain (requests fed)) w0 w4
-whole_plain margin fed more last b c w0 w1 w2 w3 w4 m pm em el pa pl pb =
+pub whole_plain : (budget : ℕ) (margin : Entry) (fed : List ℕ) (more last : List Request) (b c : Kept) (w0 w1 w2 w3 w4 : SinkState) → IsNewestMargin [] margin → PutsInto w0 w1 (print (margin ∷ [])) → whole fed ≡ whole [] ++ more → requests fed ≡ whole fed ++ last → PutsEntries (λ es. Carries (begun_with budget) more es b) w1 w2 → PutsEntries (λ es. Carries b last es c) w2 w3 → PutsInto w3 w4 (printed_entry entry.Bye) → PutsEntries (IsPlain budget (requests fed)) w0 w4
+whole_plain budget margin fed more last b c w0 w1 w2 w3 w4 m pm em el pa pl pb =
     let none : whole [] ≡ [] = refl in
-    let both = puts_carried more last [] b c w1 w2 w3 pa pl in
+    let both = puts_carried more last (begun_with budget) b c w1 w2 w3 pa pl in
     let all : requests fed ≡ more ++ last = el ∙ ap (λ rs. rs ++ last) (em ∙ ap (λ rs. rs ++ more) none) in
     let bye : PutsInto w3 w4 (print (entry.Bye ∷ [])) = subst (PutsInto w3 w4) (sym (append-nil (printed_entry entry.Bye))) pb in (
       margin ∷ both.0 ++ entry.Bye ∷ [],
-      plain_of (requests fed) margin both.0 c m (subst (λ rs. Carries [] rs both.0 c) (sym all) both.1),
+      plain_of budget (requests fed) margin both.0 c m (subst (λ rs. Carries (begun_with budget) rs both.0 c) (sym all) both.1),
       put_behind (margin ∷ []) (both.0 ++ entry.Bye ∷ []) w0 w1 w4 pm (put_behind both.0 (entry.Bye ∷ []) w1 w3 w4 both.2 bye),
     )
 
@@ -91,8 +92,8 @@ excess_told : (p : Ports) (input : List ℕ) → TakesExactly (script_bytes + 1)
 excess_told p input c told =
     long_told script_bytes p.source_before input (IsLongerThan-taken script_bytes p.source_before p.source c.0 (omega (arith, c.1)) c.2) told
 
-pub stopped_run : (p : Ports) (s : Status) → TakesUpTo (script_bytes + 1) p.source_before p.source → StopsFor {T = Unit {0}} script_bytes p (Err s) → IsScriptRun p s
-stopped_run p status.Read t c = record {
+pub stopped_run : (budget : ℕ) (p : Ports) (s : Status) → TakesUpTo (script_bytes + 1) p.source_before p.source → StopsFor {T = Unit {0}} script_bytes p (Err s) → IsScriptRun budget p s
+stopped_run budget p status.Read t c = record {
   done = λ e. absurd (let none : ⊥ = cc in none);
   ended = λ e. absurd (let none : ⊥ = cc in none);
   taken = t;
@@ -102,7 +103,7 @@ stopped_run p status.Read t c = record {
   listed = refl;
   complete = λ input told within quiet. absurd (omega (arith, c.0, quiet.0));
 }
-stopped_run p status.Write t c = record {
+stopped_run budget p status.Write t c = record {
   done = λ e. absurd (let none : ⊥ = cc in none);
   ended = λ e. absurd (let none : ⊥ = cc in none);
   taken = t;
@@ -112,7 +113,7 @@ stopped_run p status.Write t c = record {
   listed = refl;
   complete = λ input told within quiet. absurd (omega (arith, c.1, quiet.1));
 }
-stopped_run p status.Memory t c = record {
+stopped_run budget p status.Memory t c = record {
   done = λ e. absurd (let none : ⊥ = cc in none);
   ended = λ e. absurd (let none : ⊥ = cc in none);
   taken = t;
@@ -122,7 +123,7 @@ stopped_run p status.Memory t c = record {
   listed = refl;
   complete = λ input told within quiet. inr refl;
 }
-stopped_run p (status.TooLong excess.Bytes) t c = record {
+stopped_run budget p (status.TooLong excess.Bytes) t c = record {
   done = λ e. absurd (let none : ⊥ = cc in none);
   ended = λ e. absurd (let none : ⊥ = cc in none);
   taken = t;
@@ -132,16 +133,16 @@ stopped_run p (status.TooLong excess.Bytes) t c = record {
   listed = refl;
   complete = λ input told within quiet. absurd (omega (arith, within, excess_told p input c.0 told));
 }
-stopped_run p (status.TooLong excess.Lines) t c = absurd c
-stopped_run p (status.TooLong (excess.Characters n)) t c = absurd c
-stopped_run p (status.NotUtf8 n) t c = absurd c
-stopped_run p status.Fine t c = absurd c
-stopped_run p status.Faults t c = absurd c
-stopped_run p status.Words t c = absurd c
+stopped_run budget p (status.TooLong excess.Lines) t c = absurd c
+stopped_run budget p (status.TooLong (excess.Characters n)) t c = absurd c
+stopped_run budget p (status.NotUtf8 n) t c = absurd c
+stopped_run budget p status.Fine t c = absurd c
+stopped_run budget p status.Faults t c = absurd c
+stopped_run budget p status.Words t c = absurd c
 
-pub done_run : (p : Ports) (fed : List ℕ) → length fed ≤ script_bytes → TakesFrom p.source_before p.source fed → IsAtEnd p.source.left → NothingFailed p → PutsEntries (IsPlain (requests fed)) p.sink_before p.sink → IsScriptRun p status.Fine
-done_run p fed within took end quiet put = record {
-  done = λ e input told. subst (λ i. (length i ≤ script_bytes) × PutsEntries (IsPlain (requests i)) p.sink_before p.sink) (whole_told p.source_before p.source fed input (IsWhole-at_end p.source_before p.source fed took end) told) (within, put);
+pub done_run : (budget : ℕ) (p : Ports) (fed : List ℕ) → length fed ≤ script_bytes → TakesFrom p.source_before p.source fed → IsAtEnd p.source.left → NothingFailed p → PutsEntries (IsPlain budget (requests fed)) p.sink_before p.sink → IsScriptRun budget p status.Fine
+done_run budget p fed within took end quiet put = record {
+  done = λ e input told. subst (λ i. (length i ≤ script_bytes) × PutsEntries (IsPlain budget (requests i)) p.sink_before p.sink) (whole_told p.source_before p.source fed input (IsWhole-at_end p.source_before p.source fed took end) told) (within, put);
   ended = λ e. end;
   taken = (fed, omega (arith, within), took);
   faults = no_faults p status.Fine refl quiet;
@@ -157,26 +158,43 @@ status_of (Ok x) = status.Fine
 status_of (Err s) = s
 
 -- nothing was read yet
-pub carried_none : (source : SourceState) (sink : SinkState) (edits : List Edit) → HasCarried (ports source source sink sink) [] [] edits edits
-carried_none source sink edits = record {
+pub carried_none : (source : SourceState) (sink : SinkState) (kept : Kept) → HasCarried (ports source source sink sink) [] [] kept kept
+carried_none source sink kept = record {
   taken = TakesFrom-nothing source;
   more = [];
   are_more = refl;
-  put = puts_nothing edits sink;
+  put = puts_nothing kept sink;
 }
 
 -- what a part answered of some piece, behind what was carried before
-pub more_carried : (i0 i1 i2 : SourceState) (o0 o1 o2 : SinkState) (fed : List ℕ) (a b c : List Edit) (reader : Option (List ℕ)) (count room most : ℕ) → length fed + room ≡ most → count ≤ room → HasCarried (ports i0 i1 o0 o1) [] fed a b → (piece : List ℕ) × (length piece ≡ count) × (reader ≡ Some (fed ++ piece)) × HasCarried (ports i1 i2 o1 o2) fed piece b c → (all : List ℕ) × (reader ≡ Some all) × (length all ≡ length fed + count) × HasCarried (ports i0 i2 o0 o2) [] all a c
+pub more_carried : (i0 i1 i2 : SourceState) (o0 o1 o2 : SinkState) (fed : List ℕ) (a b c : Kept) (reader : Option (List ℕ)) (count room most : ℕ) → length fed + room ≡ most → count ≤ room → HasCarried (ports i0 i1 o0 o1) [] fed a b → (piece : List ℕ) × (length piece ≡ count) × (reader ≡ Some (fed ++ piece)) × HasCarried (ports i1 i2 o1 o2) fed piece b c → (all : List ℕ) × (reader ≡ Some all) × (length all ≡ length fed + count) × HasCarried (ports i0 i2 o0 o2) [] all a c
 more_carried i0 i1 i2 o0 o1 o2 fed a b c reader count room most e fits p q =
     (fed ++ q.0, q.2, length-append fed q.0 ∙ ap (λ n. length fed + n) q.1, carried_more i0 i1 i2 o0 o1 o2 fed q.0 a b c p q.3)
 
 -- the margin of the empty version was put, then what all lines complete, then what the end completes, then `bye`
-pub plain_put : (fed : List ℕ) (more : List Request) (a b c : List Edit) (w0 w1 w2 w3 w4 : SinkState) → a ≡ [] → PutsEntries (λ es. (m : Entry) × IsNewestMargin a m × (es ≡ m ∷ [])) w0 w1 → whole fed ≡ whole [] ++ more → PutsEntries (λ es. Carries a more es b) w1 w2 → PutsEntries (λ es. (l : List Request) × (requests fed ≡ whole fed ++ l) × Carries b l es c) w2 w3 → PutsInto w3 w4 (printed_entry entry.Bye) → PutsEntries (IsPlain (requests fed)) w0 w4
-plain_put fed more a b c w0 w1 w2 w3 w4 none m em more_put last_put bye =
-    whole_plain m.1.0 fed more last_put.1.0 b c w0 w1 w2 w3 w4
-    (subst (λ edits. IsNewestMargin edits m.1.0) none m.1.1)
+pub plain_put : (budget : ℕ) (fed : List ℕ) (more : List Request) (a b c : Kept) (w0 w1 w2 w3 w4 : SinkState) → a ≡ begun_with budget → PutsEntries (λ es. (m : Entry) × IsNewestMargin a.edits m × (es ≡ m ∷ [])) w0 w1 → whole fed ≡ whole [] ++ more → PutsEntries (λ es. Carries a more es b) w1 w2 → PutsEntries (λ es. (l : List Request) × (requests fed ≡ whole fed ++ l) × Carries b l es c) w2 w3 → PutsInto w3 w4 (printed_entry entry.Bye) → PutsEntries (IsPlain budget (requests fed)) w0 w4
+plain_put budget fed more a b c w0 w1 w2 w3 w4 none m em more_put last_put bye =
+    whole_plain budget m.1.0 fed more last_put.1.0 b c w0 w1 w2 w3 w4
+    (subst (λ kept. IsNewestMargin kept.edits m.1.0) none m.1.1)
     (subst (λ es. PutsInto w0 w1 (print es)) m.1.2 m.2)
     em last_put.1.1
-    (subst (λ edits. PutsEntries (λ es. Carries edits more es b) w1 w2) none more_put)
+    (subst (λ kept. PutsEntries (λ es. Carries kept more es b) w1 w2) none more_put)
     (last_put.0, last_put.1.2, last_put.2)
     bye
+
+-- ---- how many runs there are
+
+-- at most as many as requests
+pub more_few : (p : Ports) (fed piece : List ℕ) (kept after : Kept) → kept.runs ≤ length (whole fed) → HasCarried p fed piece kept after → after.runs ≤ length (whole (fed ++ piece))
+more_few p fed piece kept after few h =
+    omega (arith, few, carries_few h.more kept after h.put.0 h.put.1, ap length h.are_more, length-append (whole fed) h.more)
+
+-- so fewer than numbers of 32 bits
+pub runs_within : (p : Ports) (fed : List ℕ) (kept after : Kept) → length fed ≤ script_bytes → kept.runs ≡ 0 → HasCarried p [] fed kept after → after.runs < 4294967295
+runs_within p fed kept after within none h =
+    omega (arith, within, none, more_few p [] fed kept after (omega (arith, none)) h, whole_few fed)
+
+-- what waits is counted too
+pub answers_within : (fed piece : List ℕ) (requests : List Request) (runs room : ℕ) → length fed + room ≤ script_bytes → length piece ≤ room → runs ≤ length (whole fed) → whole (fed ++ piece) ≡ whole fed ++ requests → runs + length requests < 4294967295
+answers_within fed piece requests runs room fits short few more =
+    omega (arith, fits, short, few, ap length more, length-append (whole fed) requests, whole_few (fed ++ piece), length-append fed piece)

@@ -1,5 +1,5 @@
--- How the code goes over requests: it keeps the accepted edits, and no entries.
-use Rattle.std.specs.Prelude.{◌≡◌, ℕ, ◌+◌, List, [], ◌∷◌, ◌++◌, length, Result, Ok, Err}
+-- How the code goes over requests: it keeps the accepted edits and the number of runs, and no entries.
+use Rattle.std.specs.Prelude.{◌≡◌, ℕ, ◌+◌, Bool, true, false, List, [], ◌∷◌, ◌++◌, length, Result, Ok, Err}
 use Rattle.km_ports.specs.Ports.{Rose, TakesFrom}
 use Rattle.km_ports.specs.Whole.{TakesExactly}
 use Rattle.km_ports.specs.declared.status.Status.{Status}
@@ -17,43 +17,68 @@ use Rattle.script_lines.specs.declared.request.Request.{Request}
 use Rattle.script_lines.specs.Requests.{whole}
 use Rattle.transcript.specs.declared.entry.Entry.{Entry}
 use Rattle.transcript.specs.declared.entry.Entry.TheVariants as entry
-use Rattle.incr_analysis.specs.Full.{Full}
+use Rattle.kumir_tree.specs.Unit.{Known}
+use Rattle.kumir_values.specs.declared.value.Value.{Value}
+use Rattle.incr_analysis.specs.Full.{AreUnits, Full, knows_performer}
 use Rattle.plain_run.specs.Runs.{Ports, NothingFailed}
+use Rattle.plain_run.specs.RunEntries.{run_entries}
+use Rattle.plain_run.specs.Kept.{Kept}
 use Rattle.plain_run.specs.Plain.{PutsEntries}
 
 -- the entry is the margin of the version that these edits make
 abbrev pub IsNewestMargin : List Edit → Entry → Type 0
 IsNewestMargin edits e = (marks : List Mark) × Full (text_after edits) marks × (e ≡ entry.Margin (length edits) marks)
 
--- one entry, and the accepted edits stay as they are
-abbrev pub Alone : Entry → List Edit → List Entry → List Edit → Type 0
-Alone e edits entries after = (entries ≡ e ∷ []) × (after ≡ edits)
+-- one entry, and what is kept stays as it is
+abbrev pub Alone : Entry → Kept → List Entry → Kept → Type 0
+Alone e kept entries after = (entries ≡ e ∷ []) × (after ≡ kept)
 
--- the entries that say this outcome of an edit, and the edits that are accepted then
-abbrev pub SaysEdit : Result ℕ ApplyRefusal → List Edit → Edit → List Entry → List Edit → Type 0
-SaysEdit (Ok version) edits e entries after =
-    (margin : Entry) × IsNewestMargin after margin × (after ≡ edits ++ e ∷ []) × (entries ≡ entry.Edit version ∷ margin ∷ [])
-SaysEdit (Err refusal.Range) edits e entries after = Alone entry.EditRange edits entries after
-SaysEdit (Err refusal.TooLong) edits e entries after = Alone entry.EditLong edits entries after
-SaysEdit (Err refusal.TooMany) edits e entries after = Alone entry.EditMany edits entries after
-SaysEdit (Err refusal.Memory) edits e entries after = ⊥
+abbrev pub with_edit : Kept → Edit → Kept
+with_edit kept e = record kept { edits = kept.edits ++ e ∷ [] }
 
--- the entries that answer what the request at that line asks for, where these edits are accepted, and the edits that are
--- accepted then
-abbrev pub Answers : ℕ → Ask → List Edit → List Entry → List Edit → Type 0
-Answers line (ask.Edit e) edits entries after = SaysEdit (answer_to text_limits edits e) edits e entries after
-Answers line (ask.Field lines) edits entries after = Alone (entry.Bad line) edits entries after
-Answers line (ask.Run inputs) edits entries after = Alone (entry.Bad line) edits entries after
-Answers line ask.Stop edits entries after = Alone entry.StopIdle edits entries after
-Answers line ask.Wait edits entries after = Alone entry.Waited edits entries after
-Answers line ask.Bad edits entries after = Alone (entry.Bad line) edits entries after
+abbrev pub with_run : Kept → Kept
+with_run kept = record kept { runs = kept.runs + 1 }
+
+-- the entries that say this outcome of an edit, and what is kept then
+abbrev pub SaysEdit : Result ℕ ApplyRefusal → Kept → Edit → List Entry → Kept → Type 0
+SaysEdit (Ok version) kept e entries after =
+    (margin : Entry) × IsNewestMargin after.edits margin × (after ≡ with_edit kept e) × (entries ≡ entry.Edit version ∷ margin ∷ [])
+SaysEdit (Err refusal.Range) kept e entries after = Alone entry.EditRange kept entries after
+SaysEdit (Err refusal.TooLong) kept e entries after = Alone entry.EditLong kept entries after
+SaysEdit (Err refusal.TooMany) kept e entries after = Alone entry.EditMany kept entries after
+SaysEdit (Err refusal.Memory) kept e entries after = ⊥
+
+-- the next run, of the newest version, which has these units
+abbrev pub TakesRun : Kept → List (ℕ × Known) → List Value → List Entry → Kept → Type 0
+TakesRun kept units inputs entries after =
+    (after ≡ with_run kept)
+    × (entries ≡ entry.Run (kept.runs + 1) (length kept.edits) ∷ run_entries kept.budget (kept.runs + 1) inputs units)
+
+-- it is carried out unless the version makes a performer known
+abbrev pub RunsUnless : Bool → ℕ → Kept → List (ℕ × Known) → List Value → List Entry → Kept → Type 0
+RunsUnless true line kept units inputs entries after = Alone (entry.Bad line) kept entries after
+RunsUnless false line kept units inputs entries after = TakesRun kept units inputs entries after
+
+abbrev pub SaysRun : ℕ → Kept → List Value → List Entry → Kept → Type 0
+SaysRun line kept inputs entries after =
+    (units : List (ℕ × Known)) × AreUnits (text_after kept.edits) units
+    × RunsUnless (knows_performer units) line kept units inputs entries after
+
+-- the entries that answer what the request at that line asks for, where this is kept, and what is kept then
+abbrev pub Answers : ℕ → Ask → Kept → List Entry → Kept → Type 0
+Answers line (ask.Edit e) kept entries after = SaysEdit (answer_to text_limits kept.edits e) kept e entries after
+Answers line (ask.Field lines) kept entries after = Alone (entry.Bad line) kept entries after
+Answers line (ask.Run inputs) kept entries after = SaysRun line kept inputs entries after
+Answers line ask.Stop kept entries after = Alone entry.StopIdle kept entries after
+Answers line ask.Wait kept entries after = Alone entry.Waited kept entries after
+Answers line ask.Bad kept entries after = Alone (entry.Bad line) kept entries after
 
 -- the answers to requests, one after the other
-unfoldable pub Carries : List Edit → List Request → List Entry → List Edit → Type 0
-Carries edits [] entries after = (entries ≡ []) × (after ≡ edits)
-Carries edits (r ∷ requests) entries after =
-    (first : List Entry) × (between : List Edit) × (rest : List Entry)
-    × Answers r.line r.ask edits first between × Carries between requests rest after × (entries ≡ first ++ rest)
+unfoldable pub Carries : Kept → List Request → List Entry → Kept → Type 0
+Carries kept [] entries after = (entries ≡ []) × (after ≡ kept)
+Carries kept (r ∷ requests) entries after =
+    (first : List Entry) × (between : Kept) × (rest : List Entry)
+    × Answers r.line r.ask kept first between × Carries between requests rest after × (entries ≡ first ++ rest)
 
 -- ---- parts of a run
 
@@ -68,7 +93,7 @@ StopsFor room p (Err (status.TooLong excess.Bytes)) = TakesExactly (room + 1) p.
 StopsFor room p (Err _) = ⊥
 
 -- these bytes were read behind those before, and the requests that they complete were carried out
-pub record HasCarried (p : Ports) (fed : List ℕ) (piece : List ℕ) (before after : List Edit) : Type 0 where
+pub record HasCarried (p : Ports) (fed : List ℕ) (piece : List ℕ) (before after : Kept) : Type 0 where
   pub taken : TakesFrom p.source_before p.source piece
   pub more : List Request
   pub are_more : whole (fed ++ piece) ≡ whole fed ++ more

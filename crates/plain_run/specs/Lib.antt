@@ -5,7 +5,12 @@ pub mod Printed
 pub mod Checked
 pub mod Puts
 pub mod Ending
+pub mod RunEntries
+pub mod Runnable
+pub mod Courses
 pub mod Plain
+pub mod Kept
+pub mod Sessions
 pub mod Carried
 pub mod Scripts
 pub mod OnePlain

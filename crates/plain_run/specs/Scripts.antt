@@ -23,10 +23,10 @@ is_listed (status.TooLong excess.Bytes) = true
 is_listed (status.TooLong excess.Lines) = false
 is_listed (status.TooLong (excess.Characters line)) = false
 
--- One run of `plain`. The clauses on content hold where the source tells what is left.
-pub record IsScriptRun (p : Ports) (s : Status) : Type 0 where
+-- One run of `plain` whose runs may take so many steps. The clauses on content hold where the source tells what is left.
+pub record IsScriptRun (budget : ℕ) (p : Ports) (s : Status) : Type 0 where
   -- at status 0 the script is within its limit, it was read to its end, and the plain transcript of its requests was written
-  pub done : s ≡ status.Fine → (input : List ℕ) → p.source_before.left ≡ Some input → (length input ≤ script_bytes) × PutsEntries (IsPlain (requests input)) p.sink_before p.sink
+  pub done : s ≡ status.Fine → (input : List ℕ) → p.source_before.left ≡ Some input → (length input ≤ script_bytes) × PutsEntries (IsPlain budget (requests input)) p.sink_before p.sink
   pub ended : s ≡ status.Fine → IsAtEnd p.source.left
   -- at every status at most the limit and one byte were taken
   pub taken : TakesUpTo (script_bytes + 1) p.source_before p.source

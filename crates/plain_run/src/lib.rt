@@ -7,7 +7,10 @@ mod ending;
 mod laws;
 mod lines;
 mod plain;
+mod put;
+mod run;
 mod script;
+mod session;
 mod text;
 mod tokens;
 

@@ -1,71 +1,60 @@
 //! Requests carried out one after the other.
 
-ghost use Rattle.std.specs.Prelude.{List, ◌≡◌, ◌∷◌, [], Result, Ok, Err, IfOk, OnOk, reverse};
+ghost use Rattle.std.specs.Prelude.{List, ◌≡◌, ◌<◌, ◌+◌, ◌∷◌, [], false, length, Result, Ok, Err, IfOk, OnOk, reverse};
 ghost use Rattle.text_versions.specs.declared.versions.ApplyRefusal.TheVariants as refusal;
 ghost use Rattle.text_versions.specs.Edits.{answer_to};
 ghost use Rattle.text_versions.specs.Texts.{text_limits};
 ghost use Rattle.script_lines.specs.declared.request.Ask.{Ask};
-ghost use Rattle.transcript.specs.Print.{IsPrintable, printed_entry};
-ghost use Rattle.km_ports.specs.Ports.{PutsInto};
+ghost use Rattle.type_check.specs.Placed.{units_in};
+ghost use Rattle.incr_analysis.specs.Full.{knows_performer};
+ghost use Rattle.transcript.specs.Print.{IsPrintable};
 ghost use Rattle.plain_run.specs.Ending.{StopsPut};
+ghost use Rattle.plain_run.specs.Kept.{Kept};
+ghost use Rattle.plain_run.specs.Sessions.{kept_in, IsSession};
 ghost use Rattle.plain_run.specs.Plain.{PutsEntries};
-ghost use Rattle.plain_run.specs.Carried.{IsNewestMargin, Alone, SaysEdit, Answers, Carries};
+ghost use Rattle.plain_run.specs.Carried.{IsNewestMargin, Alone, SaysEdit, TakesRun, SaysRun, Answers, Carries};
 
-use crate::analysis::margin_of;
+use crate::analysis::analysis_of;
+use crate::put::put_entry;
+use crate::run::put_run;
+use crate::session::Session;
 use km_base::Memory;
-use km_ports::{Sink, Status, put_all};
+use km_ports::{Sink, Status};
+use kumir_values::Values;
 use script_lines::{Ask, Request, Requests};
 use sqlite_items::Items;
 use std::alloc::{AllocError, Global};
-use text_versions::{ApplyRefusal, Edit, Versions};
-use transcript::{Entry, print_entry};
-
-// Puts a text into the sink.
-fn put_text<O: Sink>(text: &str, output: &mut O) -> Result<(), Status>
-    ensures whole { OnOk result (PutsInto (O.state output.old) (O.state output.new) text.now) }
-    ensures cause { StopsPut (O.state output.old) (O.state output.new) result }
-{
-    put_all(output, text.as_bytes())?;
-    Ok(())
-}
-
-/// Puts one entry into the sink, a line with its end.
-pub fn put_entry<O: Sink>(alloc: Global, entry: Entry, output: &mut O) -> Result<(), Status>
-    requires { IsPrintable entry }
-    ensures whole { OnOk result (PutsInto (O.state output.old) (O.state output.new) (printed_entry entry)) }
-    ensures cause { StopsPut (O.state output.old) (O.state output.new) result }
-{
-    let text = print_entry(alloc, &entry)?;
-    put_text(&text, output)
-}
+use text_versions::{ApplyRefusal, Edit};
+use transcript::Entry;
 
 // The margin of the newest version.
-fn margin_entry(alloc: Global, versions: &Versions) -> Result<Entry, Memory>
-    ensures margin { IfOk result (λ entry. IsNewestMargin versions.now entry) }
+fn margin_entry(alloc: Global, session: &Session) -> Result<Entry, Memory>
+    requires { IsSession session.now }
+    ensures margin { IfOk result (λ entry. IsNewestMargin session.now.versions entry) }
     ensures printable { IfOk result (λ entry. IsPrintable entry) }
 {
-    let text = versions.snapshot()?;
     Ok(Entry::Margin {
-        version: versions.newest(),
-        margin: margin_of(alloc, text)?,
+        version: session.versions.newest(),
+        margin: session.analysed.margin().copy(alloc)?,
     })
 }
 
 /// Puts the margin of the newest version into the sink.
-pub fn put_margin<O: Sink>(alloc: Global, versions: &Versions, output: &mut O) -> Result<(), Status>
+pub fn put_margin<O: Sink>(alloc: Global, session: &Session, output: &mut O) -> Result<(), Status>
+    requires { IsSession session.now }
     ensures whole { OnOk result (PutsEntries
-        (λ entries. (margin : Entry) × IsNewestMargin versions.now margin × (entries ≡ margin ∷ []))
+        (λ entries. (margin : Entry) × IsNewestMargin session.now.versions margin × (entries ≡ margin ∷ []))
         (O.state output.old) (O.state output.new)) }
     ensures cause { StopsPut (O.state output.old) (O.state output.new) result }
 {
-    let margin = margin_entry(alloc, versions)?;
+    let margin = margin_entry(alloc, session)?;
     put_entry(alloc, margin, output)
 }
 
 // Puts the answer to an edit that was refused.
 fn put_refusal<O: Sink>(alloc: Global, refusal: ApplyRefusal, output: &mut O) -> Result<(), Status>
     ensures whole { OnOk result (PutsEntries
-        (λ entries. (edits : List Edit) → (e : Edit) → SaysEdit (Err refusal) edits e entries edits)
+        (λ entries. (kept : Kept) → (e : Edit) → SaysEdit (Err refusal) kept e entries kept)
         (O.state output.old) (O.state output.new)) }
     ensures cause { StopsPut (O.state output.old) (O.state output.new) result }
 {
@@ -80,41 +69,103 @@ fn put_refusal<O: Sink>(alloc: Global, refusal: ApplyRefusal, output: &mut O) ->
 // Makes the next version by an edit, and puts the answer, and the margin of the version behind it.
 fn put_edit<O: Sink>(
     alloc: Global,
-    versions: &mut Versions,
+    session: &mut Session,
     edit: Edit,
     output: &mut O,
 ) -> Result<(), Status>
+    requires { IsSession session.old }
     ensures whole { OnOk result (PutsEntries
-        (λ entries. SaysEdit (answer_to text_limits versions.old edit) versions.old edit entries versions.new)
+        (λ entries. SaysEdit (answer_to text_limits session.old.versions edit)
+        (kept_in session.old) edit entries (kept_in session.new))
         (O.state output.old) (O.state output.new)) }
+    ensures session { OnOk result (IsSession session.new) }
     ensures cause { StopsPut (O.state output.old) (O.state output.new) result }
 {
-    match versions.apply(edit) {
+    match session.versions.apply(edit) {
         Ok(version) => {
             put_entry(alloc, Entry::Edit { version }, output)?;
-            put_margin(alloc, versions, output)
+            session.analysed = analysis_of(alloc, version, session.versions.snapshot()?)?;
+            put_margin(alloc, session, output)
         }
         Err(refusal) => put_refusal(alloc, refusal, output),
+    }
+}
+
+// Takes a run of the newest version on, and carries it out.
+fn put_next_run<O: Sink>(
+    alloc: Global,
+    session: &mut Session,
+    inputs: Values,
+    output: &mut O,
+) -> Result<(), Status>
+    requires session { IsSession session.old }
+    requires alone { knows_performer (units_in session.old.analysed.units) ≡ false }
+    requires few { session.old.runs.count < 4294967295 }
+    ensures whole { OnOk result (PutsEntries
+        (λ entries. TakesRun (kept_in session.old) (units_in session.old.analysed.units)
+        inputs entries (kept_in session.new))
+        (O.state output.old) (O.state output.new)) }
+    ensures session { OnOk result (IsSession session.new) }
+    ensures cause { StopsPut (O.state output.old) (O.state output.new) result }
+{
+    let version = session.versions.newest();
+    let Ok(run) = session.runs.pin(version) else {
+        unreachable!()
+    };
+    put_entry(alloc, Entry::Run { run, version }, output)?;
+    put_run(
+        alloc,
+        &session.analysed,
+        &mut session.runs,
+        inputs,
+        session.budget,
+        output,
+    )
+}
+
+// Puts the answer to a run. One whose version makes a performer known is not carried out yet.
+fn put_asked_run<O: Sink>(
+    alloc: Global,
+    session: &mut Session,
+    line: u32,
+    inputs: Values,
+    output: &mut O,
+) -> Result<(), Status>
+    requires session { IsSession session.old }
+    requires few { session.old.runs.count < 4294967295 }
+    ensures whole { OnOk result (PutsEntries
+        (λ entries. SaysRun line (kept_in session.old) inputs entries (kept_in session.new))
+        (O.state output.old) (O.state output.new)) }
+    ensures session { OnOk result (IsSession session.new) }
+    ensures cause { StopsPut (O.state output.old) (O.state output.new) result }
+{
+    if session.analysed.knows_performer() {
+        put_entry(alloc, Entry::Bad { line }, output)
+    } else {
+        put_next_run(alloc, session, inputs, output)
     }
 }
 
 /// Puts the answer to one request.
 pub fn put_answer<O: Sink>(
     alloc: Global,
-    versions: &mut Versions,
+    session: &mut Session,
     request: Request,
     output: &mut O,
 ) -> Result<(), Status>
+    requires session { IsSession session.old }
+    requires few { session.old.runs.count < 4294967295 }
     ensures whole { OnOk result (PutsEntries
-        (λ entries. Answers request.line request.ask versions.old entries versions.new)
+        (λ entries. Answers request.line request.ask (kept_in session.old) entries (kept_in session.new))
         (O.state output.old) (O.state output.new)) }
+    ensures session { OnOk result (IsSession session.new) }
     ensures cause { StopsPut (O.state output.old) (O.state output.new) result }
 {
     let Request { line, ask } = request;
     match ask {
-        Ask::Edit(edit) => put_edit(alloc, versions, edit, output),
+        Ask::Edit(edit) => put_edit(alloc, session, edit, output),
         Ask::Field(_) => put_entry(alloc, Entry::Bad { line }, output),
-        Ask::Run(_) => put_entry(alloc, Entry::Bad { line }, output),
+        Ask::Run(inputs) => put_asked_run(alloc, session, line, inputs, output),
         Ask::Stop => put_entry(alloc, Entry::StopIdle, output),
         Ask::Wait => put_entry(alloc, Entry::Waited, output),
         Ask::Bad => put_entry(alloc, Entry::Bad { line }, output),
@@ -135,17 +186,21 @@ fn turned(alloc: Global, mut requests: Requests) -> Result<Requests, AllocError>
 /// Puts the answers to requests, one after the other.
 pub fn put_answers<O: Sink>(
     alloc: Global,
-    versions: &mut Versions,
+    session: &mut Session,
     requests: Requests,
     output: &mut O,
 ) -> Result<(), Status>
-    ensures whole { OnOk result (PutsEntries (λ entries. Carries versions.old requests entries versions.new)
+    requires session { IsSession session.old }
+    requires few { session.old.runs.count + length requests < 4294967295 }
+    ensures whole { OnOk result (PutsEntries
+        (λ entries. Carries (kept_in session.old) requests entries (kept_in session.new))
         (O.state output.old) (O.state output.new)) }
+    ensures session { OnOk result (IsSession session.new) }
     ensures cause { StopsPut (O.state output.old) (O.state output.new) result }
 {
     let mut waiting = turned(alloc, requests)?;
     while let Some(request) = waiting.pop() {
-        put_answer(alloc, versions, request, output)?;
+        put_answer(alloc, session, request, output)?;
     }
     Ok(())
 }

@@ -2,7 +2,7 @@
 
 ghost use Rattle.std.specs.Prelude.{◌≡◌, ◌≤◌, ◌<◌, ◌+◌, ◌++◌, ◌∷◌, ℕ, List, [], length, Some, Option, IfOk, IfSome, OnOk};
 ghost use Rattle.std.specs.Io.KnownBytes.{IsAtEnd};
-ghost use Rattle.km_base.specs.Limits.{script_bytes};
+ghost use Rattle.km_base.specs.Limits.{most_steps, script_bytes};
 ghost use Rattle.km_ports.specs.Ports.{TakesFrom};
 ghost use Rattle.km_ports.specs.Whole.{TakesUpTo};
 ghost use Rattle.script_lines.specs.Requests.{whole, requests};
@@ -12,13 +12,15 @@ ghost use Rattle.plain_run.specs.Runs.{ports};
 ghost use Rattle.plain_run.specs.Plain.{IsPlain, PutsEntries};
 ghost use Rattle.plain_run.specs.Carried.{Carries, StopsFor, HasCarried};
 ghost use Rattle.plain_run.specs.Scripts.{IsScriptRun};
+ghost use Rattle.plain_run.specs.Sessions.{kept_in, IsSession};
 
-use crate::plain::{put_answer, put_answers, put_entry, put_margin};
+use crate::plain::{put_answer, put_answers, put_margin};
+use crate::put::put_entry;
+use crate::session::{Session, new_session};
 use km_base::limits::SCRIPT_BYTES;
 use km_ports::{Excess, Sink, Source, Status};
 use script_lines::ScriptReader;
 use std::alloc::Global;
-use text_versions::Versions;
 use transcript::Entry;
 
 /// How many bytes one take asks for at most.
@@ -29,19 +31,22 @@ const PIECE_BYTES: usize = 4096;
 fn carry_piece<I: Source, O: Sink>(
     alloc: Global,
     reader: &mut ScriptReader,
-    versions: &mut Versions,
+    session: &mut Session,
     room: usize,
     buffer: &mut [u8],
     input: &mut I,
     output: &mut O,
 ) -> Result<usize, Status>
-    requires fed { (fed : List ℕ) × (reader.now ≡ Some fed) × (length fed + room ≤ script_bytes) }
+    requires fed { (fed : List ℕ) × (reader.now ≡ Some fed) × (length fed + room ≤ script_bytes)
+        × (session.old.runs.count ≤ length (whole fed)) }
+    requires session { IsSession session.old }
     requires buffer { 0 < length buffer.now }
     ensures carried { (fed : List ℕ) → reader.old ≡ Some fed → IfOk result (λ count. (piece : List ℕ)
         × (length piece ≡ count) × (reader.new ≡ Some (fed ++ piece))
         × HasCarried (ports (I.state input.old) (I.state input.new)
         (O.state output.old) (O.state output.new))
-        fed piece versions.old versions.new) }
+        fed piece (kept_in session.old) (kept_in session.new)) }
+    ensures session { OnOk result (IsSession session.new) }
     ensures within { IfOk result (λ count. count ≤ room) }
     ensures end { IfOk result (λ count. count ≡ 0 → IsAtEnd (I.state input.old).left) }
     ensures taken { TakesUpTo (room + 1) (I.state input.old) (I.state input.new) }
@@ -54,7 +59,7 @@ fn carry_piece<I: Source, O: Sink>(
         return Err(Status::TooLong(Excess::Bytes));
     }
     let requests = reader.feed(&buffer[..count])?;
-    put_answers(alloc, versions, requests, output)?;
+    put_answers(alloc, session, requests, output)?;
     Ok(count)
 }
 
@@ -62,14 +67,17 @@ fn carry_piece<I: Source, O: Sink>(
 // was read.
 fn carry_pieces<I: Source, O: Sink>(
     alloc: Global,
-    versions: &mut Versions,
+    session: &mut Session,
     input: &mut I,
     output: &mut O,
 ) -> Result<ScriptReader, Status>
+    requires session { IsSession session.old }
+    requires none { session.old.runs.count ≡ 0 }
     ensures carried { IfOk result (λ reader. (fed : List ℕ) × (reader ≡ Some fed) × (length fed ≤ script_bytes)
         × HasCarried (ports (I.state input.old) (I.state input.new)
         (O.state output.old) (O.state output.new))
-        [] fed versions.old versions.new) }
+        [] fed (kept_in session.old) (kept_in session.new)) }
+    ensures session { OnOk result (IsSession session.new) }
     ensures end { OnOk result (IsAtEnd (I.state input.new).left) }
     ensures taken { TakesUpTo (script_bytes + 1) (I.state input.old) (I.state input.new) }
     ensures cause { StopsFor script_bytes (ports (I.state input.old) (I.state input.new)
@@ -82,7 +90,7 @@ fn carry_pieces<I: Source, O: Sink>(
         let count = carry_piece(
             alloc,
             &mut reader,
-            versions,
+            session,
             room,
             &mut buffer,
             input,
@@ -98,20 +106,22 @@ fn carry_pieces<I: Source, O: Sink>(
 // Carries out the request that the end of the script completes, if there is one.
 fn carry_last<O: Sink>(
     alloc: Global,
-    versions: &mut Versions,
+    session: &mut Session,
     reader: ScriptReader,
     output: &mut O,
 ) -> Result<(), Status>
-    requires { IfSome reader (λ fed. length fed < 4294967295) }
+    requires read { IfSome reader (λ fed. length fed < 4294967295) }
+    requires session { IsSession session.old }
+    requires few { session.old.runs.count < 4294967295 }
     ensures whole { (fed : List ℕ) → reader ≡ Some fed → OnOk result (PutsEntries
         (λ entries. (last : List Request) × (requests fed ≡ whole fed ++ last)
-        × Carries versions.old last entries versions.new)
+        × Carries (kept_in session.old) last entries (kept_in session.new))
         (O.state output.old) (O.state output.new)) }
     ensures cause { StopsPut (O.state output.old) (O.state output.new) result }
 {
     let last = reader.finish()?;
     match last {
-        Some(request) => put_answer(alloc, versions, request, output),
+        Some(request) => put_answer(alloc, session, request, output),
         None => Ok(()),
     }
 }
@@ -121,29 +131,37 @@ fn carry_script<I: Source, O: Sink>(
     alloc: Global,
     input: &mut I,
     output: &mut O,
+    budget: u32,
 ) -> Result<(), Status>
+    requires { budget ≤ most_steps }
     ensures carried { OnOk result ((fed : List ℕ) × (length fed ≤ script_bytes)
         × TakesFrom (I.state input.old) (I.state input.new) fed
-        × PutsEntries (IsPlain (requests fed)) (O.state output.old) (O.state output.new)) }
+        × PutsEntries (IsPlain budget (requests fed)) (O.state output.old) (O.state output.new)) }
     ensures end { OnOk result (IsAtEnd (I.state input.new).left) }
     ensures taken { TakesUpTo (script_bytes + 1) (I.state input.old) (I.state input.new) }
     ensures cause { StopsFor script_bytes (ports (I.state input.old) (I.state input.new)
         (O.state output.old) (O.state output.new)) result }
 {
-    let mut versions = Versions::new(alloc)?;
-    put_margin(alloc, &versions, output)?;
-    let reader = carry_pieces(alloc, &mut versions, input, output)?;
-    carry_last(alloc, &mut versions, reader, output)?;
+    let mut session = new_session(alloc, budget)?;
+    put_margin(alloc, &session, output)?;
+    let reader = carry_pieces(alloc, &mut session, input, output)?;
+    carry_last(alloc, &mut session, reader, output)?;
     put_entry(alloc, Entry::Bye, output)
 }
 
-/// Reads a script and carries out its requests one after the other (docs/PROGRAM.md, "plain"). The transcript is written
-/// as it grows.
-pub fn run_plain<I: Source, O: Sink>(alloc: Global, input: &mut I, output: &mut O) -> Status
-    ensures run { IsScriptRun (ports (I.state input.old) (I.state input.new)
+/// Reads a script and carries out its requests one after the other (docs/PROGRAM.md, "plain"). A run may take so many
+/// steps. The transcript is written as it grows.
+pub fn run_plain<I: Source, O: Sink>(
+    alloc: Global,
+    input: &mut I,
+    output: &mut O,
+    budget: u32,
+) -> Status
+    requires { budget ≤ most_steps }
+    ensures run { IsScriptRun budget (ports (I.state input.old) (I.state input.new)
         (O.state output.old) (O.state output.new)) result }
 {
-    match carry_script(alloc, input, output) {
+    match carry_script(alloc, input, output, budget) {
         Ok(()) => Status::Fine,
         Err(status) => status,
     }

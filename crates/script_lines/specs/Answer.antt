@@ -4,6 +4,8 @@ use Rattle.std.specs.Prelude.{ℕ, ◌≡◌, ◌+◌, ◌⊎◌, Bool, true, fa
 use Rattle.std.specs.List.{Contains, count_by, fold}
 use Rattle.kumir_values.specs.declared.run_end.EndKind.{EndKind}
 use Rattle.margins.specs.declared.margin.Mark.{Mark}
+use Rattle.robot_field.specs.Board.{Board}
+use Rattle.robot_field.specs.FieldText.{IsFieldText, IsFirstBad}
 use Rattle.text_versions.specs.declared.edit.Edit.{Edit}
 use Rattle.text_versions.specs.declared.versions.ApplyRefusal.{ApplyRefusal}
 use Rattle.text_versions.specs.declared.versions.ApplyRefusal.TheVariants as refusal
@@ -40,6 +42,14 @@ newest before = count_by is_edit before
 
 -- ---- runs
 
+abbrev pub is_run : Entry → Bool
+is_run (entry.Run run version) = true
+is_run _ = false
+
+-- how many runs were taken on: how many entries `run R V` there are
+abbrev pub runs_taken : List Entry → ℕ
+runs_taken before = count_by is_run before
+
 -- the run was taken on
 abbrev pub IsTaken : List Entry → ℕ → Type 0
 IsTaken before run = (version : ℕ) × Contains before (entry.Run run version)
@@ -53,6 +63,9 @@ IsOver before run =
 pub record IsOpen (before : List Entry) (run : ℕ) : Type 0 where
   pub taken : IsTaken before run
   pub going : IsOver before run → ⊥
+
+abbrev pub SomeOpen : List Entry → Type 0
+SomeOpen before = (run : ℕ) × IsOpen before run
 
 abbrev pub NoneOpen : List Entry → Type 0
 NoneOpen before = (run : ℕ) → IsOpen before run → ⊥
@@ -73,11 +86,19 @@ SaysOutcome before (Err refusal.TooLong) e = e ≡ entry.EditLong
 SaysOutcome before (Err refusal.TooMany) e = e ≡ entry.EditMany
 SaysOutcome before (Err refusal.Memory) e = ⊥
 
--- the entry answers what the request at that line asks for; runs and fields are not carried out yet
+-- the entry says of these lines that they are a field, or which of them is the first that is wrong
+abbrev pub SaysField : List (List ℕ) → Entry → Type 0
+SaysField lines e = ((field : Board) × IsFieldText lines field × (e ≡ entry.FieldOk)) ⊎ ((bad : ℕ) × IsFirstBad lines bad × (e ≡ entry.FieldBad bad))
+
+-- where a run is open no other is taken on; else the entry says the next run, of the newest version
+abbrev pub SaysRun : List Entry → Entry → Type 0
+SaysRun before e = (SomeOpen before × (e ≡ entry.RunBusy)) ⊎ (NoneOpen before × (e ≡ entry.Run (runs_taken before + 1) (newest before)))
+
+-- the entry answers what the request at that line asks for
 abbrev pub AnswersAsk : List Request → List Entry → ℕ → Ask → Entry → Type 0
 AnswersAsk earlier before line (ask.Edit edit) e = SaysOutcome before (answer_to text_limits (accepted earlier) edit) e
-AnswersAsk earlier before line (ask.Field lines) e = e ≡ entry.Bad line
-AnswersAsk earlier before line (ask.Run inputs) e = e ≡ entry.Bad line
+AnswersAsk earlier before line (ask.Field lines) e = SaysField lines e
+AnswersAsk earlier before line (ask.Run inputs) e = SaysRun before e
 AnswersAsk earlier before line ask.Stop e = ((run : ℕ) × IsOpen before run × (e ≡ entry.Stop run)) ⊎ (NoneOpen before × (e ≡ entry.StopIdle))
 AnswersAsk earlier before line ask.Wait e = IsSettled before × (e ≡ entry.Waited)
 AnswersAsk earlier before line ask.Bad e = e ≡ entry.Bad line

@@ -1,11 +1,23 @@
--- Which words of the command line are a command.
-use Rattle.std.specs.Prelude.{ℕ, if◌then◌else◌, List, [], ◌∷◌, Option, Some, None, codes}
+-- Which words of the command line are a command. docs/PROGRAM.md, "Commands".
+use Rattle.std.specs.Prelude.{ℕ, ◌&&◌, if◌then◌else◌, List, [], ◌∷◌, Option, Some, None, codes, nat_le}
 use Rattle.std.specs.Str.{bytes_eq}
-use Rattle.workbench.specs.declared.top.Command.{Command}
-use Rattle.workbench.specs.declared.top.Command.TheVariants.{Tokens, Check, Plain}
+use Rattle.km_base.specs.Limits.{usual_steps, most_steps}
+use Rattle.decimals.specs.Numbers.{number_of}
+use Rattle.workbench.specs.declared.words.Command.{Command}
+use Rattle.workbench.specs.declared.words.Command.TheVariants.{Tokens, Check, Plain}
+
+-- `plain` with a number of steps from 1 to the most
+abbrev pub plain_within : Option ℕ → Option Command
+plain_within None = None
+plain_within (Some n) = if nat_le 1 n && nat_le n most_steps then Some (Plain n) else None
 
 -- the command that these words are, if they are one. A word is the list of its bytes.
 abbrev pub command_of : List (List ℕ) → Option Command
 command_of [] = None
-command_of (word ∷ []) = if bytes_eq word (codes "tokens") then Some Tokens else (if bytes_eq word (codes "check") then Some Check else (if bytes_eq word (codes "plain") then Some Plain else None))
-command_of (first ∷ second ∷ rest) = None
+command_of (word ∷ []) =
+    if bytes_eq word (codes "tokens") then Some Tokens
+    else (if bytes_eq word (codes "check") then Some Check else (if bytes_eq word (codes "plain") then Some (Plain usual_steps) else None))
+command_of (word ∷ (option ∷ [])) = None
+command_of (word ∷ (option ∷ (number ∷ []))) =
+    if bytes_eq word (codes "plain") && bytes_eq option (codes "--steps") then plain_within (number_of number) else None
+command_of (word ∷ (option ∷ (number ∷ (other ∷ rest)))) = None

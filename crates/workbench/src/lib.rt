@@ -3,6 +3,8 @@
 
 mod complaint;
 mod top;
+mod words;
 
 pub use complaint::Complaint;
-pub use top::{Command, workbench};
+pub use top::workbench;
+pub use words::Command;

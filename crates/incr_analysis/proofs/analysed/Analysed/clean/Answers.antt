@@ -1,6 +1,7 @@
 use Rattle.std.proofs.Common.{sym, ◌∙◌, ap, subst}
 use Rattle.std.specs.Result.{IfErr}
 use Rattle.std.proofs.lemmas.Result.{on_ok_weaker, IfOk-weaker, IfErr-weaker}
+use Rattle.kumir_tree.specs.Sound.{IsSound}
 use Rattle.kumir_tree.specs.Units.{units_of}
 use Rattle.type_check.specs.Margin.{program_faults}
 use Rattle.type_check.specs.Refused.{IsRefusalOf}
@@ -18,3 +19,6 @@ returns-clause-refused c = subst (λ m. IfErr c.clean_of.result (λ r. IsRefused
 
 pub returns-clause-of_text : goal.returns-clause-of_text
 returns-clause-of_text c = IfOk-weaker c.clean_of.result _ _ (λ clean e. subst (λ lines. AreUnits lines (units_in clean)) (ap (λ a. a.text) c.self.view_is) (subst (AreUnits _) (sym e) c.self.invariant.1.are_units)) c.clean_of.ensures.same
+
+pub returns-clause-sound : goal.returns-clause-sound
+returns-clause-sound c = IfOk-weaker c.clean_of.result _ _ (λ clean e. subst IsSound (sym e) c.self.invariant.0) c.clean_of.ensures.same
