@@ -5,7 +5,6 @@ ghost use Rattle.kumir_tree.specs.Parts.{formal_of};
 ghost use Rattle.kumir_meaning.specs.Expressions.{name_of};
 ghost use Rattle.kumir_meaning.specs.Program.{callee_in};
 ghost use Rattle.kumir_meaning.specs.Store.{Local};
-ghost use Rattle.stack_code.specs.declared.instruction.CommandShape.TheVariants as shape;
 ghost use Rattle.stack_code.specs.declared.instruction.Instruction.TheVariants as instruction;
 ghost use Rattle.kumir_compiler.specs.Sites as code;
 ghost use Rattle.kumir_compiler.specs.Sites.{on, slot};
@@ -22,7 +21,6 @@ use crate::site::{Site, hidden_slot, slot_of, target_of};
 use km_base::Memory;
 use kumir_names::BuiltIn;
 use kumir_tree::{Expr, Mode, Name, Param};
-use performer_kit::RobotCommand;
 use sqlite_items::Items;
 use stack_code::{CallPlace, CallPlaces, CommandShape, Instruction};
 
@@ -253,16 +251,16 @@ pub fn put_built_in(
     put(site, out, instruction_of(built_in))
 }
 
-/// A step and a command of the Robot.
-pub fn put_robot(
+/// A step and a command.
+pub fn put_ask(
     site: &Site<'_, '_>,
-    command: RobotCommand,
+    command: CommandShape,
     out: &mut PendingLines,
 ) -> Result<(), Memory>
     ensures { OnOk result (code_of out.new ≡ on (site_of site.now) instruction.Step
-        ∷ on (site_of site.now) (instruction.Ask (shape.Robot command)) ∷ code_of out.old) }
+        ∷ on (site_of site.now) (instruction.Ask command) ∷ code_of out.old) }
 {
-    put(site, out, Instruction::Ask(CommandShape::Robot(command)))?;
+    put(site, out, Instruction::Ask(command))?;
     put(site, out, Instruction::Step)
 }
 
@@ -280,7 +278,7 @@ pub fn put_named_call(site: &Site<'_, '_>, x: &Name, out: &mut PendingLines) -> 
             put(site, out, Instruction::Step)
         }
         Some(Target::BuiltIn(built_in)) => put_built_in(site, built_in, out),
-        Some(Target::Robot(command)) => put_robot(site, command, out),
+        Some(Target::Robot(command)) => put_ask(site, CommandShape::Robot(command), out),
         Some(Target::Pen(_)) => Ok(()),
         None => Ok(()),
     }

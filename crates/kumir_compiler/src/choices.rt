@@ -14,11 +14,7 @@ use km_base::Memory;
 use kumir_tree::Expr;
 
 /// The jump over the lines that were put since there were `end`, and how many there are now without it.
-pub fn put_over(
-    site: &Site<'_, '_>,
-    end: usize,
-    out: &mut PendingLines,
-) -> Result<usize, Memory>
+pub fn put_over(site: &Site<'_, '_>, end: usize, out: &mut PendingLines) -> Result<usize, Memory>
     ensures code { OnOk result (code_of out.new
         ≡ jump (site_of site.now) (length out.old - end) ∷ code_of out.old) }
     ensures other { IfOk result (λ other. other ≡ length out.old) }

@@ -28,7 +28,8 @@ fn add_algorithms<'p>(
     units: &'p [PlacedUnit],
 ) -> Result<(), Memory>
     ensures { OnOk result (program_seen program.new ≡ record (program_seen program.old) {
-        algorithms = (program_seen program.old).algorithms ++ grown (units_of units.now) }) }
+      algorithms = (program_seen program.old).algorithms ++ grown (units_of units.now);
+    }) }
 {
     for unit in units {
         if let Some(algorithm) = tree_of(unit) {
@@ -57,7 +58,11 @@ fn add_code(
 
 /// The code of all algorithms of a program: the prelude, and the units behind it.
 #[tactic(auto, unfolding(crate::specs::Code::code_of))]
-fn code_behind(alloc: Global, prelude: &PlacedUnit, units: &[PlacedUnit]) -> Result<CodeUnits, Memory>
+fn code_behind(
+    alloc: Global,
+    prelude: &PlacedUnit,
+    units: &[PlacedUnit],
+) -> Result<CodeUnits, Memory>
     ensures { IfOk result (λ made. made ≡ code_of (program_of (units_of (prelude.now ∷ units.now)))) }
 {
     let mut program = Algorithms::new(alloc, prelude.read.performers);

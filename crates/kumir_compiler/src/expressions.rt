@@ -11,7 +11,7 @@ ghost use Rattle.kumir_compiler.specs.PendingCode.{code_of};
 ghost use Rattle.kumir_compiler.specs.SitesSeen.{site_of};
 
 use crate::algorithms::Target;
-use crate::calls::{put_built_in, put_call, put_named_call, put_probe, put_read, put_robot};
+use crate::calls::{put_ask, put_built_in, put_call, put_named_call, put_probe, put_read};
 use crate::kept::{all_kept, kept_by};
 use crate::operators::{form_kind_of, put_behind, put_between};
 use crate::pending::PendingLines;
@@ -20,7 +20,7 @@ use crate::site::{Site, answer_slot, slot_of, target_of, variable_of};
 use km_base::Memory;
 use kumir_tree::{Expr, Mode, Name, Param};
 use kumir_values::Value;
-use stack_code::Instruction;
+use stack_code::{CommandShape, Instruction};
 
 /// The code of an expression, in front; so many hidden slots are in use.
 #[cycle(emit)]
@@ -169,7 +169,7 @@ fn emit_call(
             put_built_in(site, built_in, out)?;
             emit_trees(site, hidden, all, out)
         }
-        Some(Target::Robot(command)) => put_robot(site, command, out),
+        Some(Target::Robot(command)) => put_ask(site, CommandShape::Robot(command), out),
         Some(Target::Pen(_)) => Ok(()),
         None => Ok(()),
     }

@@ -41,11 +41,7 @@ pub fn begin_back(site: &Site<'_, '_>, out: &mut PendingLines) -> Result<usize, 
 }
 
 /// The step at the head of a loop, to which the line now goes back that has so many behind it.
-pub fn step_back(
-    site: &Site<'_, '_>,
-    end: usize,
-    out: &mut PendingLines,
-) -> Result<(), Memory>
+pub fn step_back(site: &Site<'_, '_>, end: usize, out: &mut PendingLines) -> Result<(), Memory>
     ensures { OnOk result (GoesBack jump_back (site_of site.now) end out.old out.new) }
 {
     put(site, out, Instruction::Step)?;

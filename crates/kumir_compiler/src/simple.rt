@@ -15,7 +15,7 @@ ghost use Rattle.kumir_compiler.specs.SitesSeen.{site_of};
 ghost use Rattle.kumir_compiler.specs.BlocksPut.{PutsClosed};
 
 use crate::algorithms::Target as Called;
-use crate::calls::put_call;
+use crate::calls::{put_ask, put_call};
 use crate::expressions::{emit_arguments, emit_tree, emit_trees};
 use crate::pending::{Pending, PendingLines};
 use crate::put::{narrow, put, put_pending};
@@ -56,11 +56,7 @@ fn names_in(declared: &Declared) -> usize
 }
 
 /// Scalars lose their values.
-fn put_clears(
-    site: &Site<'_, '_>,
-    names: &[Name],
-    out: &mut PendingLines,
-) -> Result<(), Memory>
+fn put_clears(site: &Site<'_, '_>, names: &[Name], out: &mut PendingLines) -> Result<(), Memory>
     ensures { OnOk result (code_of out.new ≡ map (λ x. on (site_of site.now)
         (instruction.Clear (slot (site_of site.now) (Local x)))) names.now ++ code_of out.old) }
 {
@@ -163,11 +159,7 @@ fn put_aim(
 
 /// The store of a value.
 #[tactic(auto, using(kumir_tree::proofs::Views::views))]
-fn put_store(
-    site: &Site<'_, '_>,
-    target: &Target,
-    out: &mut PendingLines,
-) -> Result<(), Memory>
+fn put_store(site: &Site<'_, '_>, target: &Target, out: &mut PendingLines) -> Result<(), Memory>
     ensures { OnOk result (code_of out.new
         ≡ store_code (place_of target.now) (site_of site.now) ∷ code_of out.old) }
 {
@@ -204,19 +196,6 @@ pub fn put_assign(
     put_store(site, target, out)?;
     emit_tree(site, hidden, e, out)?;
     put_aim(site, hidden, target, out)
-}
-
-/// A step and a command.
-fn put_ask(
-    site: &Site<'_, '_>,
-    command: CommandShape,
-    out: &mut PendingLines,
-) -> Result<(), Memory>
-    ensures { OnOk result (code_of out.new ≡ on (site_of site.now) instruction.Step
-        ∷ on (site_of site.now) (instruction.Ask command) ∷ code_of out.old) }
-{
-    put(site, out, Instruction::Ask(command))?;
-    put(site, out, Instruction::Step)
 }
 
 /// A call that stands alone. What stands for no algorithm and no command has no code.
@@ -361,11 +340,7 @@ pub fn put_stride(
 }
 
 /// `выход`
-pub fn put_leave(
-    site: &Site<'_, '_>,
-    exit: usize,
-    out: &mut PendingLines,
-) -> Result<(), Memory>
+pub fn put_leave(site: &Site<'_, '_>, exit: usize, out: &mut PendingLines) -> Result<(), Memory>
     ensures { OnOk result (code_of out.new
         ≡ jump (site_of site.now) (length out.old - exit) ∷ code_of out.old) }
 {

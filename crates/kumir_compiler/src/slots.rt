@@ -41,12 +41,7 @@ fn add_variable(
     Ok(())
 }
 
-fn add_scalars(
-    alloc: Global,
-    slots: &mut Slots,
-    kind: Kind,
-    names: &[Name],
-) -> Result<(), Memory>
+fn add_scalars(alloc: Global, slots: &mut Slots, kind: Kind, names: &[Name]) -> Result<(), Memory>
     ensures names { OnOk result (slots.new.names ≡ slots.old.names ++ map (scalar kind) names.now) }
     ensures shapes { OnOk result (slots.new.shapes
         ≡ slots.old.shapes ++ map (λ x. shape.Scalar kind) names.now) }

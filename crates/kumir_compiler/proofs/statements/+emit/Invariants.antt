@@ -22,8 +22,8 @@ abbrev pub invariant-emit_cases-loop-at : goal.invariant-emit_cases-loop-at
 invariant-emit_cases-loop-at l = record {
   within : l.at ≤ length l.cases;
   puts :
-    (last : code.Site → Code) (base : Code) → l.exit ≤ l.end → EndsWith l.site (arm_names (arms_of l.cases)) → code_of l.fn.out ≡ last (site_of l.site) ++ base → length base ≡ l.end
-    → choice.SoFar l.site l.cases l.at l.locals l.hidden (l.end - l.exit) last base l.out;
+      (last : code.Site → Code) (base : Code) → l.exit ≤ l.end → EndsWith l.site (arm_names (arms_of l.cases)) → code_of l.fn.out ≡ last (site_of l.site) ++ base → length base ≡ l.end
+      → choice.SoFar l.site l.cases l.at l.locals l.hidden (l.end - l.exit) last base l.out;
 }
 
 abbrev pub decreases-emit_cases-loop-at : goal.decreases-emit_cases-loop-at
