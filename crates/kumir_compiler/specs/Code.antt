@@ -1,7 +1,6 @@
 -- The code of a program, as a function of its trees; the codes of its parts are named here too. docs/LANGUAGE.md, "The code of a program".
-use Rattle.std.specs.Prelude.{ℕ, List, [], ◌∷◌, map, Option, Some, None}
-use Rattle.kumir_tree.specs.Part.{Formal}
-use Rattle.kumir_meaning.specs.Program.{Placed, Program}
+use Rattle.std.specs.Prelude.{List, map}
+use Rattle.kumir_meaning.specs.Program.{Program}
 use Rattle.stack_code.specs.declared.unit.CodeUnit.{CodeUnit}
 pub use Rattle.kumir_compiler.specs.Sites.{Line, Code, placed, Site, in_checks, among, on_line, behind, position, slot, hidden, on, jump, jump_no, jump_back, jump_no_back, next_turn}
 pub use Rattle.kumir_compiler.specs.ArgumentCode.{keep_code, kept_at, tree_keeps, keeps, tree_place, call_place, call_places, read_code, argument_code}
@@ -13,15 +12,3 @@ pub use Rattle.kumir_compiler.specs.UnitCode.{some_claim_code, bounds_code, fits
 -- the units of a program, in the order of its algorithms
 unfoldable pub code_of : Program → List CodeUnit
 code_of p = map (λ a. unit_code p a) p.algorithms
-
--- a run begins with the first algorithm, where it has no parameters
-abbrev pub without_params : List Formal → Option ℕ
-without_params [] = Some 0
-without_params (p ∷ params) = None
-
-abbrev pub entry_among : List Placed → Option ℕ
-entry_among [] = None
-entry_among (a ∷ more) = without_params a.algorithm.head.params
-
-abbrev pub entry_of : Program → Option ℕ
-entry_of p = entry_among p.algorithms
