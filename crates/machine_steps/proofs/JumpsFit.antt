@@ -232,7 +232,7 @@ most : (b : Bool) (n : ℕ) → (if b then 0 else n) ≤ n
 most true n = omega arith
 most false n = omega arith
 
-before_most : (u : CodeUnit) (pc : ℕ) → before_step u pc ≤ suc (length u.body - pc)
+pub before_most : (u : CodeUnit) (pc : ℕ) → before_step u pc ≤ suc (length u.body - pc)
 before_most u pc = most (is_step (slice_get u.body pc)) (suc (length u.body - pc))
 
 at_step : (u : CodeUnit) (pc : ℕ) → is_step (slice_get u.body pc) ≡ true → before_step u pc ≡ 0

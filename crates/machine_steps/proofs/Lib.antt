@@ -1,6 +1,7 @@
 pub mod OperandLists
 pub mod EventSteps
 pub mod PushedResults
+pub mod QuickSteps
 pub mod WrittenSlots
 pub mod PenNumbers
 pub mod SlotsAreThere
@@ -17,4 +18,5 @@ pub mod ValidCalls
 pub mod StagesStay
 pub mod StepsReach
 pub mod NeededSteps
+pub mod QuickRuns
 pub mod RepliesAnswered

@@ -1,6 +1,7 @@
 -- Instructions of one algorithm, one after the other.
-use Rattle.std.proofs.Common.{◌≡◌, true, List, [], Option, Some, None, refl, sym, ap, ◌∙◌, subst}
-use Rattle.std.specs.Prelude.{slice_get}
+use Rattle.std.proofs.Common.{◌≡◌, true, List, [], Option, Some, None, Result, Ok, Err, refl, sym, ap, ◌∙◌, subst}
+use Rattle.std.specs.Prelude.{slice_get, IfOk}
+use Rattle.km_base.specs.declared.Memory.{Memory}
 use Rattle.kumir_values.specs.declared.value.Value.{Value}
 use Rattle.kumir_values.specs.declared.run_end.EndKind.TheVariants as end
 use Rattle.kumir_meaning.specs.Runs as state
@@ -18,7 +19,7 @@ use Rattle.machine_steps.specs.Progress.{at, StepsTo}
 use Rattle.machine_steps.specs.Carried.{Onward}
 use Rattle.machine_steps.specs.Local.{is_local}
 use Rattle.machine_steps.specs.Frames.{IsReady}
-use Rattle.machine_steps.specs.Silent.{MovedToNonLocal, KeepsPast, KeepsUnit}
+use Rattle.machine_steps.specs.Silent.{GoesOn, MovedToNonLocal, KeepsPast, KeepsUnit}
 use Rattle.machine_steps.proofs.CarriedSteps.{halted, carried_steps_to, onward_then}
 use Rattle.machine_steps.proofs.JumpsFit.{past_calls, same_unit}
 
@@ -58,3 +59,12 @@ keeps_unit l old mid new (did.Over end) h m e = tt
 keeps_unit l old mid new did.Moved h m e = same_unit [] l.what l.line (state_of mid []) (state_of new []) did.Moved h refl e ∙ m
 keeps_unit l old mid new (did.Printed t) h m e = same_unit [] l.what l.line (state_of mid []) (state_of new []) (did.Printed t) h refl e ∙ m
 keeps_unit l old mid new (did.Told p) h m e = same_unit [] l.what l.line (state_of mid []) (state_of new []) (did.Told p) h refl e ∙ m
+
+-- behind instructions that show nothing
+pub goes_behind : (o : Result Acted Memory) (u : CodeUnit) (old mid new : Running) → mid.unit ≡ old.unit
+    → ((units : List CodeUnit) → unit_at units old.unit ≡ u → GoesOn units did.Moved old mid)
+    → IfOk o (λ acted. (units : List CodeUnit) → unit_at units mid.unit ≡ u → GoesOn units acted mid new)
+    → IfOk o (λ acted. (units : List CodeUnit) → unit_at units old.unit ≡ u → GoesOn units acted old new)
+goes_behind (Ok acted) u old mid new e p h = λ units is frames inputs.
+    onward_then units (at (state_of old frames) inputs) (at (state_of mid frames) inputs) (at (state_of new frames) inputs) acted (p units is frames inputs) (h units (ap (unit_at units) e ∙ is) frames inputs)
+goes_behind (Err m) u old mid new e p h = h

@@ -1,5 +1,5 @@
 -- Steps that are needed.
-use Rattle.std.proofs.Common.{◌≡◌, ℕ, ◌+◌, List, [], Some, sym, ap, ◌∙◌, subst, arith, ⊎_elim}
+use Rattle.std.proofs.Common.{◌≡◌, ℕ, ◌+◌, ◌-◌, ◌<◌, List, [], Some, sym, ap, ◌∙◌, subst, arith, ⊎_elim}
 use Rattle.std.proofs.lemmas.Bool.{cases_lt}
 use Rattle.kumir_meaning.specs.Runs.{Going, only, usual}
 use Rattle.stack_code.specs.declared.unit.CodeUnit.{CodeUnit}
@@ -27,3 +27,13 @@ one_needed units a m taken p h before n lt = ⊎_elim (λ less. before n less) (
 
 pub so_needed : (units : List CodeUnit) (a : FullState) (n taken : ℕ) → n ≡ taken → NeedsEach units a taken → NeedsEach units a n
 so_needed units a n taken e h = subst (NeedsEach units a) (sym e) h
+
+-- behind steps that were needed
+pub all_needed : (units : List CodeUnit) (a m : FullState) (taken more : ℕ) → StepsTo units a taken [] [] m → NeedsEach units a taken → NeedsEach units m more → NeedsEach units a (taken + more)
+all_needed units a m taken more p before behind n lt = ⊎_elim (λ less. before n less) (λ not_less. later (n - taken) (omega (arith, lt, not_less)) (omega (arith, not_less))) (cases_lt n taken)
+  where
+    later : (k : ℕ) → k < more → n ≡ taken + k → (j : ℕ) × (exec usual units j a.state n a.inputs [] ≡ Some (only Going))
+    later k w e =
+        let ends = behind k w in
+        let v = p.forth k [] ends.0 (only Going) ends.1 in
+        (v.0, ap (λ l. exec usual units v.0 a.state l a.inputs []) e ∙ v.1)

@@ -1,11 +1,14 @@
 -- Facts about operands.
-use Rattle.std.proofs.Common.{◌≡◌, ℕ, ◌-◌, ◌≤◌, ◌<◌, true, false, List, [], ◌∷◌, ◌++◌, take, drop, length, reverse, nat_le, refl, sym, ap, ◌∙◌, arith}
+use Rattle.std.proofs.Common.{◌≡◌, ℕ, suc, ◌+◌, ◌-◌, ◌≤◌, ◌<◌, true, false, List, [], ◌∷◌, ◌++◌, take, drop, length, reverse, map, set, nat_le, refl, sym, ap, ◌∙◌, arith}
+use Rattle.std.specs.Prelude.{ℤ}
 use Rattle.std.proofs.lemmas.Bool.Decides.{nat_tests}
 use Rattle.std.proofs.lemmas.Grind.{common_steps}
-use Rattle.std.proofs.lemmas.List.{reverse-append, reverse-reverse, length-reverse, take-append-drop, take_all}
+use Rattle.std.proofs.lemmas.List.{reverse-append, reverse-reverse, length-reverse, set_split, take-append-drop, take_all}
 use Rattle.std.proofs.Math.Seq.{take-append_seam, drop-append_seam}
 use Rattle.kumir_values.specs.declared.value.Value.{Value}
-use Rattle.stack_code.specs.CodeState.{rest}
+use Rattle.kumir_values.specs.declared.value.Value.TheVariants.{Whole}
+use Rattle.kumir_meaning.specs.Operators.{number_of}
+use Rattle.stack_code.specs.CodeState.{top, rest, numbers}
 
 pub three_left : (xs : List Value) → rest (rest (rest xs)) ≡ drop 3 xs
 three_left [] = refl
@@ -61,3 +64,54 @@ without_last xs n m e = elim (nat_le n (length xs)) as (λ b. nat_le n (length x
       let k : length (reverse xs) ≤ n = omega (arith, w, r) in
       ap (λ k. reverse (take k xs)) z ∙ sym (drop_all n (reverse xs) k)
 ] refl
+
+-- the two on top
+pub two_on_top : (xs : List Value) (a b : Value) → reverse (take 2 xs) ≡ a ∷ b ∷ [] → xs ≡ b ∷ a ∷ rest (rest xs)
+two_on_top [] a b e = absurd (let wrong : ⊥ = cc in wrong)
+two_on_top (c ∷ []) a b e = absurd (let wrong : ⊥ = cc in wrong)
+two_on_top (c ∷ (d ∷ xs)) a b e = cc
+
+-- another value in the place of the top
+top_replaced : (ys : List Value) (n : ℕ) (v : Value) → length ys ≡ n + 1 → reverse (set ys n v) ≡ v ∷ drop 1 (reverse ys)
+top_replaced ys n v e =
+    let there : n < length ys = omega (arith, e) in
+    let none : length ys ≤ suc n = omega (arith, e) in
+    let but_one : n ≡ length ys - 1 = omega (arith, e) in
+    ap reverse (set_split ys n v there ∙ ap (λ l. take n ys ++ v ∷ l) (drop_all (suc n) ys none)) ∙ reverse-append (take n ys) (v ∷ []) ∙ ap (λ l. v ∷ l) (without_last ys 1 n but_one)
+
+drop_two : (xs : List Value) → drop 1 (drop 1 xs) ≡ rest (rest xs)
+drop_two [] = refl
+drop_two (a ∷ []) = refl
+drop_two (a ∷ (b ∷ xs)) = refl
+
+-- another value in the place of the two on top
+pub two_replaced : (xs ys stack : List Value) (n : ℕ) (v : Value) → reverse xs ≡ stack → ys ≡ take (length xs - 1) xs → n ≡ length ys → 2 ≤ length stack → reverse (set ys (n - 1) v) ≡ v ∷ rest (rest stack)
+two_replaced xs ys stack n v s e l h =
+    let turned = ap reverse e ∙ without_last xs 1 (length xs - 1) refl ∙ ap (drop 1) s in
+    let all = length-reverse ys in
+    let left = ap length turned ∙ length-drop 1 stack in
+    let there : length ys ≡ n - 1 + 1 = omega (arith, l, h, all, left) in
+    top_replaced ys (n - 1) v there ∙ ap (λ k. v ∷ drop 1 k) turned ∙ ap (λ k. v ∷ k) (drop_two stack)
+
+-- the numbers on top
+pub one_number : (xs : List Value) (n : ℤ) → reverse (take 1 xs) ≡ Whole n ∷ [] → numbers 1 xs ≡ n ∷ []
+one_number xs n e = ap (map number_of) e
+
+pub one_below : (xs : List Value) (n : ℤ) (v : Value) → reverse (take 2 xs) ≡ Whole n ∷ v ∷ [] → (numbers 1 (rest xs) ≡ n ∷ []) × (top xs ≡ v)
+one_below [] n v e = absurd (let wrong : ⊥ = cc in wrong)
+one_below (a ∷ []) n v e = absurd (let wrong : ⊥ = cc in wrong)
+one_below (a ∷ (b ∷ xs)) n v e = (cc, cc)
+
+pub two_below : (xs : List Value) (n m : ℤ) (v : Value) → reverse (take 3 xs) ≡ Whole n ∷ Whole m ∷ v ∷ [] → (numbers 2 (rest xs) ≡ n ∷ m ∷ []) × (top xs ≡ v)
+two_below [] n m v e = absurd (let wrong : ⊥ = cc in wrong)
+two_below (a ∷ []) n m v e = absurd (let wrong : ⊥ = cc in wrong)
+two_below (a ∷ (b ∷ [])) n m v e = absurd (let wrong : ⊥ = cc in wrong)
+two_below (a ∷ (b ∷ (d ∷ xs))) n m v e = (cc, cc)
+
+-- another value in the place of the one on top
+pub one_replaced : (ys stack : List Value) (n : ℕ) (v : Value) → reverse ys ≡ stack → n ≡ length ys → 1 ≤ length stack → reverse (set ys (n - 1) v) ≡ v ∷ drop 1 stack
+one_replaced ys stack n v s l h =
+    let all = length-reverse ys in
+    let same = ap length s in
+    let there : length ys ≡ n - 1 + 1 = omega (arith, l, h, all, same) in
+    top_replaced ys (n - 1) v there ∙ ap (λ k. v ∷ drop 1 k) s

@@ -11,7 +11,7 @@ use Rattle.stack_code.specs.declared.instruction.CodeLine.{CodeLine}
 use Rattle.stack_code.specs.declared.instruction.Instruction.TheVariants as code
 use Rattle.stack_code.specs.declared.unit.CodeUnit.{CodeUnit}
 use Rattle.stack_code.specs.CodeRuns.{start}
-use Rattle.stack_code.specs.Instructions.{unit_or, unit_at, event_at, enters_unit}
+use Rattle.stack_code.specs.Instructions.{unit_or, unit_at, enters_unit}
 use Rattle.stack_code.specs.Validity.{is_call}
 use Rattle.machine_steps.specs.declared.stage.Stage.{Stage}
 use Rattle.machine_steps.specs.declared.stage.Stop.{Stop}
@@ -23,8 +23,8 @@ use Rattle.machine_steps.specs.Progress.{FullState, at, StepsTo}
 use Rattle.machine_steps.specs.Carried.{Onward}
 use Rattle.machine_steps.specs.Frames.{line_of, frames_of, state_in, IsCallAt, AllValid, IsEntered, IsPastCalls, Waits}
 use Rattle.machine_steps.specs.Stages.{full_state_of, IsStage, NeedsStep, Stops, StaysStage}
-use Rattle.machine_steps.specs.Reaching.{stepped, Reaches, EndsAfter, StepsToSome, IsBehindStep, Enters, Passes, as_reached, IsStageAt}
-use Rattle.machine_steps.proofs.EventSteps.{steps_to_both, steps_to_tick}
+use Rattle.machine_steps.specs.Reaching.{Reaches, IsBehindStep, Enters, as_reached, IsStageAt}
+use Rattle.machine_steps.proofs.EventSteps.{steps_to_both}
 use Rattle.machine_steps.proofs.ValidCalls.{past_begin}
 use Rattle.machine_steps.proofs.StagesStay.{came_on}
 
@@ -40,14 +40,6 @@ some_is x y e = cc
 
 pub stopped : (units : List CodeUnit) (a b : FullState) (n taken : ℕ) → n ≡ taken → StepsTo units a taken [] [] b → StepsTo units a n [] [] b
 stopped units a b n taken e p = subst (λ k. StepsTo units a k [] [] b) (sym e) p
-
-pub stepped_comes : (units : List CodeUnit) (s : Stage) → NeedsStep units (full_state_of units s) → StepsTo units (full_state_of units s) 1 [] [] (full_state_of units (record s { running = stepped s.running }))
-stepped_comes units s h =
-    steps_to_tick units (full_state_of units s).state (full_state_of units (record s { running = stepped s.running })).state (full_state_of units s).inputs (ap (λ o. event_at usual units o (full_state_of units s).state) h.1)
-
-pub passes_so : (units : List CodeUnit) (a m b : FullState) (o : Option EndKind) → StepsTo units a 1 [] [] m → Enters units m o b → Passes units a o b
-passes_so units a m b None p h = steps_to_both units a m b 1 0 [] [] [] [] p h
-passes_so units a m b (Some e) p h = (m, h.0, p, h.1, h.2)
 
 pub reach_at : (units : List CodeUnit) (a b c : FullState) (n taken : ℕ) (o : Stop) (r : Reached) → as_reached o ≡ Some r → n ≡ taken → StepsTo units a taken [] [] b → Stops units b o c → Reaches units a n r c
 reach_at units a b c n taken (stop.Printed t) r e k p h = subst (λ x. Reaches units a n x c) (some_is _ r e) (behind_steps units a b c n taken (Printed t ∷ []) k p h)
@@ -76,16 +68,6 @@ stage_at_step units s (stop.Told d) e h = h
 stage_at_step units s (stop.Asks q) e h = h
 stage_at_step units s (stop.Over end) e h = absurd (let wrong : ⊥ = cc in wrong)
 stage_at_step units s stop.Step e h = h
-
--- a pass ends the run
-pub ends_behind : (units : List CodeUnit) (a b : FullState) (n taken : ℕ) (end : EndKind) → n ≡ taken + 1 → StepsTo units a taken [] [] b → EndsAfter units b 1 end → EndsAfter units a n end
-ends_behind units a b n taken end e p h = (h.0, h.1, subst (λ k. StepsTo units a k [] [] h.0) (sym e) (steps_to_both units a b h.0 taken 1 [] [] [] [] p h.2), h.3, h.4)
-
-pub passes_behind : (units : List CodeUnit) (a b c : FullState) (taken : ℕ) → StepsTo units a taken [] [] b → StepsTo units b 1 [] [] c → StepsTo units a (taken + 1) [] [] c
-passes_behind units a b c taken p q = steps_to_both units a b c taken 1 [] [] [] [] p q
-
-pub some_behind : (units : List CodeUnit) (a b : FullState) (n taken : ℕ) → n ≡ taken + 1 → StepsTo units a taken [] [] b → StepsToSome units b 1 → StepsToSome units a n
-some_behind units a b n taken e p h = (h.0, subst (λ k. StepsTo units a k [] [] h.0) (sym e) (steps_to_both units a b h.0 taken 1 [] [] [] [] p h.1))
 
 -- the steps that were taken in a call
 pub taken_now : (before now taken : ℕ) → now ≡ before + taken → now - before ≡ taken

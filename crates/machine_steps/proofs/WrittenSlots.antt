@@ -3,7 +3,7 @@ use Rattle.std.proofs.Common.{◌≡◌, ◌≢◌, ℕ, ◌<◌, true, false, L
 use Rattle.std.specs.Prelude.{slice_get, nat_eq, if◌then◌else◌, unwrap_or}
 use Rattle.std.proofs.lemmas.Bool.Decides.{nat_tests}
 use Rattle.std.proofs.lemmas.List.{get_or-set_same, get_or-set_other}
-use Rattle.std.proofs.lemmas.Option.{unwrap_or-slice_get}
+use Rattle.std.proofs.lemmas.Option.{unwrap_or-slice_get, slice_get-get_or}
 use Rattle.stack_code.specs.CodeState.{Slot, Slots, with_slot, no_slots}
 use Rattle.machine_steps.specs.declared.held.Cell.TheVariants.{Empty}
 use Rattle.machine_steps.specs.declared.held.Held.{Held}
@@ -35,6 +35,10 @@ put_is xs i h w = λ k y. at_each xs i h w y k
 
 pub nothing_is : (count : ℕ) (xs : List Held) → AllEmpty count xs → slots_of xs ≡ no_slots
 nothing_is count xs e = λ k y. (as_get xs y ∙ ap slot_of (e.1 y)) k
+
+-- what a slot holds that is there
+pub held_there : (xs : List Held) (x : ℕ) (h : Held) → x < length xs → h ≡ get_or xs x h → slots_of xs x ≡ slot_of h
+held_there xs x h w e = ap slot_or (slice_get-get_or xs x h w) ∙ ap slot_of (sym e)
 
 -- the later of two changes of one slot stands
 pub changed_twice : (s : Slots) (x : ℕ) (a b : Slot) → with_slot (with_slot s x a) x b ≡ with_slot s x b

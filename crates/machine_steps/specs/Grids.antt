@@ -1,14 +1,15 @@
 -- Checks of tables.
-use Rattle.std.specs.Prelude.{◌≡◌, ℕ, ◌+◌, ◌<◌, ◌≤◌, true, false, List, Result, Ok, Err}
+use Rattle.std.specs.Prelude.{◌≡◌, ℕ, ℤ, ◌+◌, ◌<◌, ◌≤◌, true, false, List, Some, Result, Ok, Err}
 use Rattle.kumir_tree.specs.declared.kind.Kind.{Kind}
 use Rattle.kumir_values.specs.declared.bounds.Bound.{Bound}
 use Rattle.kumir_values.specs.declared.run_end.RunFault.{RunFault}
 use Rattle.kumir_values.specs.declared.run_end.RunFault.TheVariants.{Bounds, Elements}
+use Rattle.kumir_values.specs.declared.value.Value.{Value}
 use Rattle.kumir_values.specs.Bounds.{all_ordered, elements}
 use Rattle.kumir_values.specs.Tables.{Grid}
-use Rattle.kumir_meaning.specs.Store.{without_values}
+use Rattle.kumir_meaning.specs.Store.{without_values, with_element}
 use Rattle.kumir_meaning.specs.Runs as state
-use Rattle.stack_code.specs.CodeState.{State}
+use Rattle.stack_code.specs.CodeState.{State, Plain, Slots, cell_in, with_slot}
 use Rattle.stack_code.specs.Instructions.{Event, Go, Halt}
 use Rattle.machine_steps.specs.declared.held.Cell.TheVariants.{Holds}
 use Rattle.machine_steps.specs.States.{cell_view}
@@ -32,3 +33,7 @@ IsMade room kind bounds used (Ok made) =
 IsMade room kind bounds used (Err Bounds) = all_ordered bounds ≡ false
 IsMade room kind bounds used (Err Elements) = (all_ordered bounds ≡ true) × (room < used + elements bounds)
 IsMade room kind bounds used (Err other) = ⊥
+
+-- an element of the table in a slot put
+abbrev pub element_put : Slots → ℕ → List ℤ → Value → Slots
+element_put slots x index v = with_slot slots x (Plain (with_element (cell_in (slots x)) index (Some v)))

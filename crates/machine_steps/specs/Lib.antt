@@ -14,3 +14,4 @@ pub mod NonLocals
 pub mod Stages
 pub mod Reaching
 pub mod Replying
+pub mod Quick

@@ -42,15 +42,10 @@ pub record IsBehindStep (units : List CodeUnit) (s : Stage) : Type 0 where
   pub entered : IsEntered units s.running
   pub waits : All (Waits units) s.waiting.items
 
--- one step, and the call behind it: it goes on, or the run ends
+-- the call behind a step: it goes on, or the run ends
 abbrev pub Enters : List CodeUnit → FullState → Option EndKind → FullState → Type 0
 Enters units a None b = StepsTo units a 0 [] [] b
 Enters units a (Some end) b = (state : RunState) × (end_of state ≡ Some end) × EndsIn units a state
-
--- one step: it goes on, or the run ends
-abbrev pub Passes : List CodeUnit → FullState → Option EndKind → FullState → Type 0
-Passes units a None b = StepsTo units a 1 [] [] b
-Passes units a (Some end) b = EndsAfter units a 1 end
 
 -- what a stop is to the run, but for one before a step
 abbrev pub as_reached : Stop → Option Reached

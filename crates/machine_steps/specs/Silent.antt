@@ -2,6 +2,7 @@
 use Rattle.std.specs.Prelude.{◌≡◌, ℕ, suc, ◌-◌, false, List, length, slice_get, Some, if◌then◌else◌}
 use Rattle.kumir_values.specs.declared.value.Value.{Value}
 use Rattle.stack_code.specs.declared.instruction.CodeLine.{CodeLine}
+use Rattle.stack_code.specs.declared.instruction.Instruction.TheVariants as code
 use Rattle.stack_code.specs.declared.unit.CodeUnit.{CodeUnit}
 use Rattle.stack_code.specs.CodeState.{Frame}
 use Rattle.stack_code.specs.Validity.{is_step, is_call}
@@ -16,6 +17,10 @@ use Rattle.machine_steps.specs.Local.{is_local}
 -- the run goes on from one state of the algorithm to the next, whichever calls wait and inputs are left
 abbrev pub GoesOn : List CodeUnit → Acted → Running → Running → Type 0
 GoesOn units acted old new = (frames : List Frame) (inputs : List Value) → Onward units (at (state_of old frames) inputs) acted (at (state_of new frames) inputs)
+
+-- it stands at a step
+abbrev pub IsAtStep : CodeUnit → ℕ → Type 0
+IsAtStep u pc = (line : ℕ) × (slice_get u.body pc ≡ Some (record { line = line; what = code.Step }))
 
 -- it stands at an instruction that concerns more than the algorithm alone
 abbrev pub IsAtNonLocal : CodeUnit → ℕ → Type 0

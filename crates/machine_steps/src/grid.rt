@@ -1,5 +1,5 @@
 //! What a variable holds, as a table.
-ghost use Rattle.std.specs.Prelude.{◌≡◌, IfOk, IfErr, IsOk, IsTrue, IsFalse, ◌↔◌, ◌&&◌};
+ghost use Rattle.std.specs.Prelude.{◌≡◌, true, false, Ok, Some, IfOk, IfErr, IsOk, IsTrue, IsFalse, ◌↔◌, ◌&&◌};
 ghost use Rattle.std.specs.Ordering.{int_eq};
 ghost use Rattle.kumir_values.specs.Bounds.{inside};
 ghost use Rattle.kumir_values.specs.Tables.{is_of_kind};
@@ -14,6 +14,7 @@ use kumir_tree::Kind;
 use kumir_values::{Bound, RunFault, Table, Value};
 
 /// The element of a table: `Index` outside its bounds, `Unset` where it has no value.
+#[inline(always)]
 #[tactic(auto, using(crate::proofs::TableChecks::other_length))]
 pub fn element_of(table: &Table, index: &[i32]) -> Result<Value, RunFault>
     ensures { result ≡ element (store.Holds (table_map table.now)) index.now }
@@ -25,6 +26,7 @@ pub fn element_of(table: &Table, index: &[i32]) -> Result<Value, RunFault>
 }
 
 /// The element of what a variable holds; `Unset` where it is no table.
+#[inline(always)]
 pub fn element_in(cell: &Cell, index: &[i32]) -> Result<Value, RunFault>
     ensures { result ≡ element (cell_view cell.now) index.now }
 {
@@ -35,6 +37,7 @@ pub fn element_in(cell: &Cell, index: &[i32]) -> Result<Value, RunFault>
 }
 
 /// Whether the indexes lie within the bounds.
+#[inline(always)]
 pub fn is_inside(table: &Table, index: &[i32]) -> bool
     ensures { result ≡ inside table.now.bounds index.now }
 {
@@ -45,6 +48,7 @@ pub fn is_inside(table: &Table, index: &[i32]) -> bool
 }
 
 /// Checks the indexes of an element: `Unset` where there is no table, `Index` outside its bounds.
+#[inline(always)]
 pub fn check_in(cell: &Cell, index: &[i32]) -> Result<(), RunFault>
     ensures { IsFine (checked (cell_view cell.now) index.now) result }
 {
@@ -112,6 +116,7 @@ pub fn size_of(cell: &Cell) -> u32
 }
 
 /// Whether a table of this kind can take it.
+#[inline(always)]
 fn can_take(kind: Kind, value: Option<Value>) -> bool
     ensures { result ≡ is_of_kind kind value }
 {
@@ -123,6 +128,7 @@ fn can_take(kind: Kind, value: Option<Value>) -> bool
 }
 
 /// Gives an element of a table a value, or takes it away, where the table can take it.
+#[inline(always)]
 #[tactic(auto, using(crate::proofs::TableChecks::other_length, crate::proofs::TableChecks::outside_kept, crate::proofs::TableChecks::other_kind_kept))]
 fn change(table: &mut Table, index: &[i32], value: Option<Value>)
     ensures { store.Holds (table_map table.new) ≡ with_element (store.Holds (table_map table.old)) index.now value }
@@ -143,11 +149,38 @@ fn change(table: &mut Table, index: &[i32], value: Option<Value>)
 }
 
 /// Gives an element of what a variable holds a value, or takes it away.
+#[inline(always)]
 pub fn put_element(cell: &mut Cell, index: &[i32], value: Option<Value>)
     ensures { cell_view cell.new ≡ with_element (cell_view cell.old) index.now value }
 {
     match cell {
         Cell::Holds(table) => change(table, index, value),
         Cell::Empty | Cell::Has(_) => {}
+    }
+}
+
+/// Gives an element of a table a value, if it is there and the table can take it; else nothing changes.
+#[inline(always)]
+fn set_in_table(table: &mut Table, index: &[i32], value: Value) -> bool
+    ensures there { result ≡ true → checked (store.Holds (table_map table.old)) index.now ≡ Ok index.now }
+    ensures set { result ≡ true → store.Holds (table_map table.new) ≡ with_element (store.Holds (table_map table.old)) index.now (Some value) }
+    ensures kept { result ≡ false → table.new ≡ table.old }
+{
+    if index.len() != table.bounds().len() || !can_take(table.kind(), Some(value)) {
+        return false;
+    }
+    table.set(index, value).is_ok()
+}
+
+/// Gives an element of what a variable holds a value, if it is there and can take it; else nothing changes.
+#[inline(always)]
+pub fn set_in(cell: &mut Cell, index: &[i32], value: Value) -> bool
+    ensures there { result ≡ true → checked (cell_view cell.old) index.now ≡ Ok index.now }
+    ensures set { result ≡ true → cell_view cell.new ≡ with_element (cell_view cell.old) index.now (Some value) }
+    ensures kept { result ≡ false → cell.new ≡ cell.old }
+{
+    match cell {
+        Cell::Holds(table) => set_in_table(table, index, value),
+        Cell::Empty | Cell::Has(_) => false,
     }
 }

@@ -12,6 +12,8 @@ mod loops;
 mod operands;
 mod output;
 mod plain;
+mod quick;
+mod quick_elements;
 mod replies;
 mod returns;
 mod running;

@@ -9,7 +9,7 @@ ghost use Rattle.machine_steps.specs.Acting.{Carries};
 ghost use Rattle.machine_steps.specs.Loops.{IsNear, turned};
 
 use crate::acted::Acted;
-use crate::held::{Held, Numbers, Turns};
+use crate::held::{Numbers, Turns};
 use crate::running::Running;
 use crate::slots::Slots;
 use crate::values::{number_in, turns_asked};
@@ -24,7 +24,7 @@ pub fn begin_times(running: &mut Running, slot: u32) -> Result<Acted, Memory>
     ensures count { length running.new.slots ≡ length running.old.slots }
 {
     let count = turns_asked(running.operands.pop());
-    running.slots.put(slot, Held::Loop(Turns::Left(count)));
+    running.slots.put_turns(slot, Turns::Left(count));
     running.pc += 1;
     Ok(Acted::Moved)
 }
@@ -43,6 +43,7 @@ fn numbers_from(first: i32, last: i32, step: i32) -> Numbers
 }
 
 /// The number of the turn after this one, which is not past the last.
+#[inline(always)]
 fn further(next: i64, last: i32, step: i32) -> i64
     requires near { IsNear next step }
     requires before { past next last step ≡ false }
@@ -61,6 +62,7 @@ fn stays_near(next: i64, last: i32, step: i32, following: i64)
 {}
 
 /// The numbers of a loop after one more turn.
+#[inline(always)]
 fn following(numbers: Numbers) -> Numbers
     requires { past numbers.next numbers.last numbers.step ≡ false }
     ensures next { result.next ≡ numbers.next +ℤ numbers.step }
@@ -77,6 +79,7 @@ fn following(numbers: Numbers) -> Numbers
 }
 
 /// The number of a turn as a value of `цел`.
+#[inline(always)]
 fn number_of_turn(numbers: Numbers) -> i32
     requires { past numbers.next numbers.last numbers.step ≡ false }
     ensures { result ≡ numbers.next }
@@ -102,12 +105,13 @@ pub fn begin_turns(running: &mut Running, slot: u32, line: u32) -> Result<Acted,
         }));
     }
     let turns = Turns::Numbers(numbers_from(first, last, step));
-    running.slots.put(slot, Held::Loop(turns));
+    running.slots.put_turns(slot, turns);
     running.pc += 1;
     Ok(Acted::Moved)
 }
 
 /// Whether the number of a turn lies past the last one.
+#[inline(always)]
 fn is_past(number: i64, last: i32, step: i32) -> bool
     ensures { result ≡ past number last step }
 {
@@ -119,6 +123,7 @@ fn is_past(number: i64, last: i32, step: i32) -> bool
 }
 
 /// Sets the variable of a loop, if it has one.
+#[inline(always)]
 fn set_number(slots: &mut Slots, variable: Option<u32>, number: i32)
     requires { IfSome variable (λ v. v < length slots.old) }
     ensures slots { slots_of slots.new ≡ set_variable variable number (slots_of slots.old) }
@@ -130,8 +135,9 @@ fn set_number(slots: &mut Slots, variable: Option<u32>, number: i32)
 }
 
 /// One turn of a loop, if one is left; else nothing changes.
+#[inline(always)]
 #[tactic(auto, using(crate::proofs::LoopTurns::turn_none, crate::proofs::LoopTurns::turn_zero, crate::proofs::LoopTurns::turn_left, crate::proofs::LoopTurns::turn_past, crate::proofs::LoopTurns::turn_number))]
-fn turn(slots: &mut Slots, slot: u32, variable: Option<u32>) -> bool
+pub fn turn(slots: &mut Slots, slot: u32, variable: Option<u32>) -> bool
     requires there { slot < length slots.old }
     requires variable { IfSome variable (λ v. v < length slots.old) }
     ensures one { result ≡ true → turned (slots_of slots.old slot) slot variable (slots_of slots.old) ≡ Some (slots_of slots.new) }
@@ -145,14 +151,14 @@ fn turn(slots: &mut Slots, slot: u32, variable: Option<u32>) -> bool
             if count == 0 {
                 return false;
             }
-            slots.put(slot, Held::Loop(Turns::Left(count - 1)));
+            slots.put_turns(slot, Turns::Left(count - 1));
             true
         }
         Some(Turns::Numbers(numbers)) => {
             if is_past(numbers.next, numbers.last, numbers.step) {
                 return false;
             }
-            slots.put(slot, Held::Loop(Turns::Numbers(following(numbers))));
+            slots.put_turns(slot, Turns::Numbers(following(numbers)));
             set_number(slots, variable, number_of_turn(numbers));
             true
         }

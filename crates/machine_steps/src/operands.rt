@@ -1,5 +1,6 @@
 //! The operands of an algorithm that runs.
-ghost use Rattle.std.specs.Prelude.{◌≡◌, [], ◌∷◌, length, map, reverse, take, drop, OnOk, IfOk, MatchOption};
+ghost use Rattle.std.specs.Prelude.{◌≡◌, ◌≤◌, [], ◌∷◌, true, false, length, map, reverse, take, drop, OnOk, IfOk, IfSome, MatchOption};
+ghost use Rattle.kumir_values.specs.declared.value.Value.TheVariants as Value;
 ghost use Rattle.stack_code.specs.CodeState.{top, rest, numbers, paired};
 ghost use Rattle.kumir_meaning.specs.Operators.{number_of};
 
@@ -79,6 +80,15 @@ impl Operands {
         Ok(())
     }
 
+    /// Puts a value on top, and says whether it stands there; all stays where memory is wanted.
+    #[inline(always)]
+    pub fn push_or_keep(&mut self, value: Value) -> bool
+        ensures pushed { result ≡ true → self.new ≡ value ∷ self.old }
+        ensures kept { result ≡ false → self.new ≡ self.old }
+    {
+        self.values.push(value).is_ok()
+    }
+
     /// Takes the top away, if there is one.
     pub fn take(&mut self) -> Option<Value>
         ensures { MatchOption result ((self.old ≡ []) × (self.new ≡ [])) (λ value. self.old ≡ value ∷ self.new) }
@@ -102,6 +112,78 @@ impl Operands {
         ensures { result.now ≡ reverse (take count self.now) }
     {
         &self.values.as_slice()[self.values.len().saturating_sub(count)..]
+    }
+
+    /// The two operands on top, where both are numbers, in the order in which they were pushed.
+    #[inline(always)]
+    #[tactic(auto, using(crate::proofs::OperandLists::two_on_top))]
+    pub fn two_numbers(&self) -> Option<(i32, i32)>
+        ensures { IfSome result (λ two. self.now ≡ Value.Whole two.1 ∷ Value.Whole two.0 ∷ rest (rest self.now)) }
+    {
+        match self.last(2) {
+            [Value::Whole(first), Value::Whole(second)] => Some((*first, *second)),
+            _ => None,
+        }
+    }
+
+    /// The operand on top, where it is a number.
+    #[inline(always)]
+    #[tactic(auto, using(crate::proofs::OperandLists::one_number))]
+    pub fn top_number(&self) -> Option<i32>
+        ensures number { IfSome result (λ number. numbers 1 self.now ≡ number ∷ []) }
+        ensures there { IfSome result (λ number. 1 ≤ length self.now) }
+    {
+        match self.last(1) {
+            [Value::Whole(number)] => Some(*number),
+            _ => None,
+        }
+    }
+
+    /// A number and the value on top of it.
+    #[inline(always)]
+    #[tactic(auto, using(crate::proofs::OperandLists::one_below))]
+    pub fn number_and_value(&self) -> Option<(i32, Value)>
+        ensures number { IfSome result (λ both. numbers 1 (rest self.now) ≡ both.0 ∷ []) }
+        ensures value { IfSome result (λ both. top self.now ≡ both.1) }
+    {
+        match self.last(2) {
+            [Value::Whole(number), value] => Some((*number, *value)),
+            _ => None,
+        }
+    }
+
+    /// Two numbers and the value on top of them.
+    #[inline(always)]
+    #[tactic(auto, using(crate::proofs::OperandLists::two_below))]
+    pub fn two_numbers_and_value(&self) -> Option<(i32, i32, Value)>
+        ensures numbers { IfSome result (λ three. numbers 2 (rest self.now) ≡ three.0 ∷ three.1 ∷ []) }
+        ensures value { IfSome result (λ three. top self.now ≡ three.2) }
+    {
+        match self.last(3) {
+            [Value::Whole(first), Value::Whole(second), value] => Some((*first, *second, *value)),
+            _ => None,
+        }
+    }
+
+    /// Puts a value in the place of the one on top.
+    #[inline(always)]
+    pub fn replace_top(&mut self, value: Value)
+        requires { 1 ≤ length self.old }
+        ensures { self.new ≡ value ∷ drop 1 self.old }
+    {
+        let top = self.values.len() - 1;
+        self.values[top] = value;
+    }
+
+    /// Puts a value in the place of the two on top.
+    #[inline(always)]
+    pub fn replace_two(&mut self, value: Value)
+        requires { 2 ≤ length self.old }
+        ensures { self.new ≡ value ∷ rest (rest self.old) }
+    {
+        let _ = self.values.pop();
+        let top = self.values.len() - 1;
+        self.values[top] = value;
     }
 
     /// The numbers on top, so many or all, in the order in which they were pushed. Up to six take no memory.

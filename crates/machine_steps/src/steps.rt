@@ -4,11 +4,15 @@ ghost use Rattle.stack_code.specs.CodeRuns.{start};
 ghost use Rattle.stack_code.specs.Validity.{is_call};
 ghost use Rattle.machine_steps.specs.Progress.{at};
 ghost use Rattle.machine_steps.specs.Frames.{line_of, AllValid, IsEntered};
-ghost use Rattle.machine_steps.specs.Stages.{full_state_of, IsStage, NeedsStep};
-ghost use Rattle.machine_steps.specs.Reaching.{stepped, Reaches, StepsToSome, NeedsEach, IsBehindStep, Enters, Passes, as_reached, IsStageAt, StepsIn};
+ghost use Rattle.machine_steps.specs.Stages.{full_state_of, IsStage};
+ghost use Rattle.stack_code.specs.Instructions.{unit_at};
+ghost use Rattle.machine_steps.specs.Silent.{IsAtStep};
+ghost use Rattle.machine_steps.specs.Quick.{ComesBy, NeedsBy};
+ghost use Rattle.machine_steps.specs.Reaching.{stepped, Reaches, StepsToSome, NeedsEach, IsBehindStep, Enters, as_reached, IsStageAt, StepsIn};
 
 use crate::enter::enter;
 use crate::running::Running;
+use crate::silent::go_quickly;
 use crate::stage::{Question, Stage, Stop};
 use crate::stops::run_on;
 use km_base::Memory;
@@ -126,23 +130,23 @@ fn take_step(units: &[CodeUnit], running: &mut Running)
     }
 }
 
-/// Takes the step that is needed, and enters the unit of the call behind it. The end of the run where that can't be.
-fn pass_step(
-    alloc: Global,
-    units: &[CodeUnit],
-    stage: &mut Stage,
-) -> Result<Option<EndKind>, Memory>
+/// Takes the step that stands there, and those behind it as far as the quick path leads, at most so many: how many it
+/// took.
+fn take_steps(units: &[CodeUnit], running: &mut Running, most: u32) -> u32
     requires valid { AllValid units.now }
-    requires stage { IsStage units.now stage.old }
-    requires step { NeedsStep units.now (full_state_of units.now stage.old) }
-    ensures passes { IfOk result (λ end. Passes units.now (full_state_of units.now stage.old) end (full_state_of units.now stage.new)) }
-    ensures stage { IfOk result (λ end. IfNone end (IsStage units.now stage.new)) }
-    ensures refused { IfErr result (λ refused. StepsToSome units.now (full_state_of units.now stage.old) 1) }
-    ensures inputs { stage.new.inputs ≡ stage.old.inputs }
+    requires entered { IsEntered units.now running.old }
+    requires step { IsAtStep (unit_at units.now running.old.unit) running.old.pc }
+    requires some { 1 ≤ most }
+    ensures comes { ComesBy units.now result running.old running.new }
+    ensures needed { NeedsBy units.now result running.old }
+    ensures entered { IsEntered units.now running.new }
+    ensures some { 1 ≤ result }
+    ensures few { result ≤ most }
 {
-    take_step(units, &mut stage.running);
-    let end = enter_next(alloc, units, stage)?;
-    Ok(end)
+    take_step(units, running);
+    let unit = &units[running.unit as usize];
+    let more = go_quickly(unit, running, most - 1);
+    more + 1
 }
 
 /// What a run came to where it stops before anything but a step.
@@ -192,9 +196,11 @@ pub fn run_steps(
         if taken == most {
             return Ok(Reached::Paused);
         }
-        *steps += 1;
-        taken += 1;
-        if let Some(end) = pass_step(alloc, units, stage)? {
+        let room = (most - taken).min(budget - *steps);
+        let more = take_steps(units, &mut stage.running, room);
+        *steps += more;
+        taken += more;
+        if let Some(end) = enter_next(alloc, units, stage)? {
             return Ok(Reached::Over(end));
         }
     }

@@ -22,7 +22,8 @@ use kumir_values::{Bound, EndKind, RunFault, Table, TableRefusal, Value};
 use std::alloc::Global;
 
 /// The element of the table in a slot.
-fn element_of_slot(slots: &Slots, slot: u32, index: &[i32]) -> Result<Value, RunFault>
+#[inline(always)]
+pub fn element_of_slot(slots: &Slots, slot: u32, index: &[i32]) -> Result<Value, RunFault>
     ensures { result ≡ element (cell_in (slots_of slots.now slot)) index.now }
 {
     match slots.cell(slot) {

@@ -5,7 +5,7 @@ use Rattle.stack_code.specs.Validity.{is_call}
 use Rattle.stack_code.specs.declared.unit.CodeUnit.{CodeUnit}
 use Rattle.machine_steps.specs.declared.acted.Acted.TheVariants as did
 use Rattle.machine_steps.specs.Silent.{GoesOn, before_step}
-use Rattle.machine_steps.proofs.silent.run_alone.Given as goal
+use Rattle.machine_steps.proofs.silent.run_each.Given as goal
 
 abbrev pub invariant-loop-line : goal.invariant-loop-line
 invariant-loop-line l = record {
