@@ -12,17 +12,20 @@ use Rattle.kumir_meaning.specs.Store.{Store}
 use Rattle.kumir_meaning.specs.Runs.{Printed, Sent, RunState, Awaiting, Trace, Rest, after_act, usual, stops, unless_fault, tick, does, asks, takes, input_as}
 use Rattle.kumir_meaning.specs.Expressions.{Then, ThenValue}
 use Rattle.kumir_meaning.specs.Algorithms.{run, run_within}
-use Rattle.kumir_compiler.specs.Laws.{robot_commands_of}
+use Rattle.kumir_compiler.specs.Laws.{robot_commands_of, pen_commands_of}
 use Rattle.kumir_compiler.proofs.EachRun.{IsKept, each_run}
 
 abbrev commands : Trace → ℕ
 commands t = length (robot_commands_of t.acts)
 
+abbrev moves : Trace → ℕ
+moves t = length (pen_commands_of t.acts)
+
 pub record IsAnswered (a : Rest) (n : ℕ) (inputs : List Value) (replies : List Reply) : Type 0 where
   pub settled : (a n inputs replies).state ≢ Awaiting → (more : List Reply) → a n inputs (replies ++ more) ≡ a n inputs replies
   pub awaits : (a n inputs replies).state ≡ Awaiting → commands (a n inputs replies) ≡ length replies + 1
   pub answered : (a n inputs replies).state ≢ Awaiting → commands (a n inputs replies) ≤ length replies
-  pub steps : commands (a n inputs replies) ≤ n
+  pub steps : commands (a n inputs replies) + moves (a n inputs replies) ≤ n
 
 abbrev Answered : Rest → Type 0
 Answered a = (n : ℕ) (inputs : List Value) (replies : List Reply) → IsAnswered a n inputs replies
@@ -41,10 +44,11 @@ prints_answered text k s h n inputs replies =
     let w = h n inputs replies in
     record { settled = λ f more. ap (after_act (Printed text)) (w.settled f more); awaits = w.awaits; answered = w.answered; steps = w.steps }
 
-draws_answered : (command : PenCommand) (k : Then) (s : Store) → Answered (k s) → Answered (does (Sent (Pen command)) k s)
-draws_answered command k s h n inputs replies =
+draws_answered : (command : PenCommand) (k : Then) (s : Store) → Answered (k s) → Answered (tick (λ s1. does (Sent (Pen command)) k s1) s)
+draws_answered command k s h zero inputs replies = record { settled = λ f more. refl; awaits = λ e. absurd (let no_end : ⊥ = cc in no_end); answered = λ f. omega arith; steps = omega arith }
+draws_answered command k s h (suc n) inputs replies =
     let w = h n inputs replies in
-    record { settled = λ f more. ap (after_act (Sent (Pen command))) (w.settled f more); awaits = w.awaits; answered = w.answered; steps = w.steps }
+    record { settled = λ f more. ap (after_act (Sent (Pen command))) (w.settled f more); awaits = w.awaits; answered = w.answered; steps = (let le = w.steps in omega (arith, le)) }
 
 asks_answered : (command : RobotCommand) (k : Reply → Then) (s : Store) → ((r : Reply) → Answered (k r s)) → Answered (tick (λ s1. asks (Robot command) k s1) s)
 asks_answered command k s h zero inputs replies = record { settled = λ f more. refl; awaits = λ e. absurd (let no_end : ⊥ = cc in no_end); answered = λ f. omega arith; steps = omega arith }

@@ -38,12 +38,12 @@ Each P k = (s : Store) → P (k s)
 abbrev pub EachOf : {X : Type 0} → (Rest → Type 0) → (X → Then) → Type 0
 EachOf {X} P k = (x : X) → Each P (k x)
 
--- each end, step, act, reply and input keeps it; a command to the Robot stands behind its step
+-- each end, step, act, reply and input keeps it; a command stands behind its step
 pub record IsKept (P : Rest → Type 0) : Type 0 where
   pub ends : (end : RunState) → end ≢ Awaiting → P (stops end)
   pub ticks : (k : Then) → Each P k → Each P (tick k)
   pub prints : (text : List ℕ) (k : Then) → Each P k → Each P (does (Printed text) k)
-  pub draws : (command : PenCommand) (k : Then) → Each P k → Each P (does (Sent (Pen command)) k)
+  pub draws : (command : PenCommand) (k : Then) → Each P k → Each P (tick (λ s. does (Sent (Pen command)) k s))
   pub asks : (command : RobotCommand) (k : Reply → Then) → EachOf P k → Each P (tick (λ s. asks (Robot command) k s))
   pub takes : (kind : Kind) (line : ℕ) (k : ThenValue) → EachOf P k → Each P (takes kind line k)
 
@@ -175,7 +175,7 @@ module _ (P : Rest → Type 0) (keeps : IsKept P) where
   invokes_each (Some (Called a)) es h k ok go = args_each es a.algorithm.head.params h _ ok (λ passed. enters_each a passed h (λ v. k) ok (λ v. go))
   invokes_each (Some (RobotCall c)) es h k ok go =
       keeps.asks c (λ r. choose (is_wall r) (λ s2. stops (state.Wall h.line)) k) (λ r. choice (is_wall r) (λ s2. stops (state.Wall h.line)) k (λ s2. keeps.ends (state.Wall h.line) (λ e. cc)) go)
-  invokes_each (Some (PenCall c)) es h k ok go = values_each es h _ ok (λ vs. keeps.ticks _ (keeps.draws (pen_command c (numbers_of vs)) k go))
+  invokes_each (Some (PenCall c)) es h k ok go = values_each es h _ ok (λ vs. keeps.draws (pen_command c (numbers_of vs)) k go)
   invokes_each (Some (BuiltInCall b)) es h k ok go = λ s. faulty h.line _
   invokes_each None es h k ok go = λ s. faulty h.line _
 

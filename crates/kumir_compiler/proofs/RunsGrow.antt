@@ -7,7 +7,7 @@ use Rattle.kumir_tree.specs.declared.kind.Kind.{Kind}
 use Rattle.kumir_values.specs.declared.value.Value.{Value}
 use Rattle.kumir_values.specs.declared.run_end.RunFault.{RunFault}
 use Rattle.kumir_meaning.specs.Store.{Store}
-use Rattle.kumir_meaning.specs.Runs.{Act, Printed, Sent, Trace, Rest, IsPrefix, usual, unless_fault, tick, asks, takes, input_as}
+use Rattle.kumir_meaning.specs.Runs.{Act, Printed, Sent, Trace, Rest, IsPrefix, usual, unless_fault, tick, does, asks, takes, input_as}
 use Rattle.kumir_meaning.specs.Expressions.{Then, ThenValue}
 use Rattle.kumir_meaning.specs.Algorithms.{run, run_within}
 use Rattle.kumir_meaning.proofs.Counters.{counter_is_enough}
@@ -51,7 +51,7 @@ grows = record {
   ends = λ end other m n inputs r q le b. same [];
   ticks = λ k h s. tick_grows k s (h s);
   prints = λ text k h s m n inputs r q le b. behind (Printed text) _ _ (h s m n inputs r q le b);
-  draws = λ command k h s m n inputs r q le b. behind (Sent (Pen command)) _ _ (h s m n inputs r q le b);
+  draws = λ command k h s. tick_grows (λ s1. does (Sent (Pen command)) k s1) s (λ m n inputs r q le b. behind (Sent (Pen command)) _ _ (h s m n inputs r q le b));
   asks = λ command k h s. tick_grows (λ s1. asks (Robot command) k s1) s (asks_grows (Robot command) k s (λ x. h x s));
   takes = λ kind line k h s. takes_grows kind line k s (λ v. h v s);
 }

@@ -91,7 +91,8 @@ CommandsAreAnswered =
     (p : Program) (inputs : List Value) (replies : List Reply) (n : ℕ)
     → (run p inputs replies n).state ≢ Awaiting → length (robot_commands_of (run p inputs replies n).acts) ≤ length replies
 
--- each command to the Robot takes a step
+-- each command takes a step
 abbrev pub CommandsTakeSteps : Type 0
 CommandsTakeSteps =
-    (p : Program) (inputs : List Value) (replies : List Reply) (n : ℕ) → length (robot_commands_of (run p inputs replies n).acts) ≤ n
+    (p : Program) (inputs : List Value) (replies : List Reply) (n : ℕ)
+    → length (robot_commands_of (run p inputs replies n).acts) + length (pen_commands_of (run p inputs replies n).acts) ≤ n

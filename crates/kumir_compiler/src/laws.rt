@@ -48,7 +48,7 @@ pub fn commands_are_answered()
     ensures { CommandsAreAnswered }
 {}
 
-/// Each command to the Robot takes a step.
+/// Each command takes a step: a run has at most as many commands to both performers as steps.
 pub fn commands_take_steps()
     ensures { CommandsTakeSteps }
 {}
