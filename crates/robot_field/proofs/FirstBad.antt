@@ -9,10 +9,10 @@ use Rattle.robot_field.specs.Board.{Board}
 use Rattle.robot_field.specs.FieldText.{opened, marked, IsHeaderLine, IsMarkLine, Marks, IsFieldText, IsBadMarkAt, IsFirstBad}
 use Rattle.robot_field.proofs.Spellings.{header_same, mark_same}
 
-one_header : (line : List ℕ) (h k : Header) → IsHeaderLine line h → IsHeaderLine line k → h ≡ k
+pub one_header : (line : List ℕ) (h k : Header) → IsHeaderLine line h → IsHeaderLine line k → h ≡ k
 one_header line h k p q = header_same h k p.counted q.counted (sym p.text ∙ q.text)
 
-one_mark : (b : Board) (line : List ℕ) (m n : Mark) → IsMarkLine b line m → IsMarkLine b line n → m ≡ n
+pub one_mark : (b : Board) (line : List ℕ) (m n : Mark) → IsMarkLine b line m → IsMarkLine b line n → m ≡ n
 one_mark b line m n p q = mark_same m n p.counted q.counted (sym p.text ∙ q.text)
 
 -- the bad place behind a line that is a mark

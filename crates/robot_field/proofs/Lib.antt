@@ -3,3 +3,4 @@ pub mod Reading
 pub mod Spellings
 pub mod FirstBad
 pub mod Cells
+pub mod EachText

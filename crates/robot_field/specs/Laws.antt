@@ -1,8 +1,10 @@
--- How the replies of the Robot go on; that the cells of a field are sets; and that a wall is seen from both of its cells.
+-- How the replies of the Robot go on; that the cells of a field are sets; that a wall is seen from both of its cells; and
+-- that each list of lines is a field text or has a first wrong line.
 use Rattle.std.specs.Prelude.{◌≡◌, ◌≢◌, ◌≤◌, ◌<◌, ◌⊎◌, ℕ, Bool, true, false, List, ◌++◌, length}
 use Rattle.performer_kit.specs.declared.commands.RobotCommand.{RobotCommand}
 use Rattle.robot_field.specs.declared.side.Side.TheVariants.{Above, Below, Left, Right}
 use Rattle.robot_field.specs.Board.{Board, no_cells, has_cell, with_cell, has_wall, next_cell, robot, robot_end}
+use Rattle.robot_field.specs.FieldText.{IsFieldText, IsFirstBad}
 
 pub record GoesOn : Type 0 where
   pub replies : (b : Board) (first second : List RobotCommand) → robot b (first ++ second) ≡ robot b first ++ robot (robot_end b first) second
@@ -30,3 +32,12 @@ pub record AreSetsOfCells : Type 0 where
 pub record WallsHaveTwoSides : Type 0 where
   pub across : (b : Board) → 1 ≤ b.x → b.x < b.width → has_wall (next_cell b Right) Left ≡ has_wall b Right
   pub down : (b : Board) → 1 ≤ b.y → b.y < b.height → has_wall (next_cell b Below) Above ≡ has_wall b Below
+
+-- ---- field texts
+
+-- Each list of lines is the text of exactly one field, or exactly one of its lines is the first that is wrong, and not both.
+pub record EachTextIsAnswered : Type 0 where
+  pub some : (lines : List (List ℕ)) → ((b : Board) × IsFieldText lines b) ⊎ ((n : ℕ) × IsFirstBad lines n)
+  pub one_field : (lines : List (List ℕ)) (b c : Board) → IsFieldText lines b → IsFieldText lines c → b ≡ c
+  pub one_first_bad : (lines : List (List ℕ)) (m n : ℕ) → IsFirstBad lines m → IsFirstBad lines n → m ≡ n
+  pub apart : (lines : List (List ℕ)) (b : Board) (n : ℕ) → IsFieldText lines b → IsFirstBad lines n → ⊥

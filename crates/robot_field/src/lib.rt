@@ -7,4 +7,4 @@ mod side;
 mod text;
 
 pub use field::{Field, FieldRefusal};
-pub use laws::{cells_are_sets, robot_goes_on, walls_have_two_sides};
+pub use laws::{cells_are_sets, each_text_is_answered, robot_goes_on, walls_have_two_sides};
