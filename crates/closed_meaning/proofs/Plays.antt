@@ -11,8 +11,8 @@ use Rattle.kumir_meaning.specs.Runs.{RunState, Awaiting, Trace, IsPrefix}
 use Rattle.robot_field.specs.Board.{Board, board_after, robot, robot_end}
 use Rattle.kumir_compiler.specs.Laws.{robot_commands_of, Begins}
 use Rattle.closed_meaning.specs.Play.{IsPlay}
-use Rattle.closed_meaning.specs.Laws.{OnePlay, PlayIsAnswered, PlayOnlyGrows, KnownLaws}
-use Rattle.closed_meaning.proofs.Prefixes.{whole, one_more}
+use Rattle.closed_meaning.specs.Laws.{OnePlay, PlayIsAnswered, PlayOnlyGrows, PlayGoesOn, KnownLaws}
+use Rattle.closed_meaning.proofs.Prefixes.{itself, longer, whole, one_more}
 
 awaits_or_not : (s : RunState) → (s ≡ Awaiting) ⊎ (s ≢ Awaiting)
 awaits_or_not Awaiting = inl refl
@@ -51,21 +51,29 @@ module _ (laws : KnownLaws) (p : Program) (inputs : List Value) (field : Board) 
       let same = answers-length n r in
       whole r (answers n r) b (omega (arith, le, same))
 
-  adds : (k n : ℕ) (r : List Reply) → n ≤ length r + k → IsPrefix r (answers n r) → (q : List Reply) × (q ≡ answers n q)
+  -- these replies go on to such as are the field's to all that the program commands on them
+  abbrev EndsAt : ℕ → List Reply → Type 0
+  EndsAt n r = (q : List Reply) × (q ≡ answers n q) × IsPrefix r q
+
+  adds : (k n : ℕ) (r : List Reply) → n ≤ length r + k → IsPrefix r (answers n r) → EndsAt n r
   adds zero n r le b =
       let over : (run p inputs r n).state ≢ Awaiting = λ e. (let one = laws.awaits p inputs r n e in let few = laws.steps p inputs r n in omega (arith, one, few, le)) in
-      (r, settles n r b over)
+      (r, settles n r b over, itself r)
   adds (suc k) n r le b = adds_where (λ q le1 b1. adds k n q le1 b1) (awaits_or_not (run p inputs r n).state) where
-    adds_where : ((q : List Reply) → n ≤ length q + k → IsPrefix q (answers n q) → (z : List Reply) × (z ≡ answers n z))
-        → ((run p inputs r n).state ≡ Awaiting) ⊎ ((run p inputs r n).state ≢ Awaiting) → (q : List Reply) × (q ≡ answers n q)
-    adds_where more (inr other) = (r, settles n r b other)
+    adds_where : ((q : List Reply) → n ≤ length q + k → IsPrefix q (answers n q) → EndsAt n q)
+        → ((run p inputs r n).state ≡ Awaiting) ⊎ ((run p inputs r n).state ≢ Awaiting) → EndsAt n r
+    adds_where more (inr other) = (r, settles n r b other, itself r)
     adds_where more (inl e) =
         let one = laws.awaits p inputs r n e in
         let same = answers-length n r in
-        more (answers n r) (omega (arith, le, one, same)) (answers_grow n n r (answers n r) (omega arith) b)
+        let end = more (answers n r) (omega (arith, le, one, same)) (answers_grow n n r (answers n r) (omega arith) b) in
+        (end.0, end.1, longer r (answers n r) end.0 b end.2)
+
+  ends : (n : ℕ) (r : List Reply) → IsPrefix r (answers n r) → EndsAt n r
+  ends n r b = adds n n r (omega arith) b
 
   there_is_one : (n : ℕ) → (q : List Reply) × (q ≡ answers n q)
-  there_is_one n = adds n n [] (omega arith) (answers n [], refl)
+  there_is_one n = let end = ends n [] (answers n [], refl) in (end.0, end.1)
 
   -- ---- one on less steps begins one on more
 
@@ -115,6 +123,13 @@ module _ (laws : KnownLaws) (p : Program) (inputs : List Value) (field : Board) 
       let same : w.replies ≡ v.replies = whole w.replies v.replies b (omega (arith, n1, n2)) in
       v.of_program ∙ ap (λ r. run p inputs r n) (sym same) ∙ sym w.of_program
 
+  goes_on : (n : ℕ) (r : List Reply) (play : Trace) → IsPrefix r (answers n r) → IsPlay p inputs field n play → Begins (run p inputs r n) play
+  unfolding of_replies
+  goes_on n r play b w =
+      let end = ends n r b in
+      let one = of_replies n (end.0, end.1) in
+      subst (λ t. Begins (run p inputs r n) t) (sym (same_play n one.0 play one.1 w)) (laws.grows p inputs r end.0 n n (omega arith) end.2)
+
   is_answered : (n : ℕ) (play : Trace) → IsPlay p inputs field n play → play.state ≢ Awaiting
   is_answered n play w is =
       let e = of_both n play w in
@@ -135,3 +150,6 @@ pub play_only_grows : KnownLaws → PlayOnlyGrows
 play_only_grows laws p inputs field m n short long le w v =
     let b = replies_begin laws p inputs field m n w.replies v.replies le (of_both laws p inputs field m short w) (of_both laws p inputs field n long v) in
     subst (λ t. Begins t long) (sym w.of_program) (subst (λ t. Begins (run p inputs w.replies m) t) (sym v.of_program) (laws.grows p inputs w.replies v.replies m n le b))
+
+pub play_goes_on : KnownLaws → PlayGoesOn
+play_goes_on laws p inputs field n replies play b w = goes_on laws p inputs field n replies play b w

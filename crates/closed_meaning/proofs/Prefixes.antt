@@ -1,11 +1,14 @@
 -- Beginnings of lists.
 use Rattle.std.proofs.Common.{◌≡◌, ◌+◌, ◌≤◌, List, [], ◌∷◌, ◌++◌, take, length, sym, ap, ◌∙◌, arith, append-nil}
-use Rattle.std.proofs.lemmas.List.{length-append}
+use Rattle.std.proofs.lemmas.List.{length-append, append_assoc}
 use Rattle.std.proofs.Math.Seq.{take-append_seam, take-append-add}
 use Rattle.kumir_meaning.specs.Runs.{IsPrefix}
 
 pub itself : {A : Type 0} (xs : List A) → IsPrefix xs xs
 itself xs = ([], sym (append-nil xs))
+
+pub longer : {A : Type 0} (xs ys zs : List A) → IsPrefix xs ys → IsPrefix ys zs → IsPrefix xs zs
+longer xs ys zs b d = (b.0 ++ d.0, d.1 ∙ ap (λ l. l ++ d.0) b.1 ∙ append_assoc xs b.0 d.0)
 
 -- a beginning that is no shorter is the whole list
 pub whole : {A : Type 0} (xs ys : List A) → IsPrefix xs ys → length ys ≤ length xs → xs ≡ ys

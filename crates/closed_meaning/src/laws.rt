@@ -1,6 +1,6 @@
 //! Laws of a run together with its Robot, which no code needs to run.
 
-ghost use Rattle.closed_meaning.specs.Laws.{OnePlay, PlayIsAnswered, PlayOnlyGrows, KnownLaws};
+ghost use Rattle.closed_meaning.specs.Laws.{OnePlay, PlayIsAnswered, PlayOnlyGrows, PlayGoesOn, KnownLaws};
 
 use kumir_compiler::{
     awaits_one_reply, commands_are_answered, commands_take_steps, meaning_only_grows,
@@ -37,6 +37,13 @@ pub fn play_is_answered()
 /// A run together with its Robot on less steps begins that on more: its acts, its outputs, its commands to each performer.
 pub fn play_only_grows()
     ensures { PlayOnlyGrows }
+{
+    laws_are_known();
+}
+
+/// What a program does on the field's first replies to its own commands begins its run together with the Robot.
+pub fn play_goes_on()
+    ensures { PlayGoesOn }
 {
     laws_are_known();
 }

@@ -3,4 +3,4 @@
 
 mod laws;
 
-pub use laws::{one_play, play_is_answered, play_only_grows};
+pub use laws::{one_play, play_goes_on, play_is_answered, play_only_grows};

@@ -1,6 +1,6 @@
 -- The way of the code over requests follows the answer rule: of what it writes each run is over, it has the margin of the
 -- newest version, an `edit V` for each accepted edit and a `run R V` for each run.
-use Rattle.std.proofs.Common.{◌≡◌, ◌≢◌, ℕ, ◌+◌, ◌≤◌, ◌⊎◌, inl, inr, ⊎_elim, Bool, true, false, cond, List, [], ◌∷◌, ◌++◌, length, Option, Some, None, sym, ap, subst, ◌∙◌, refl, append_assoc, append-nil, arith}
+use Rattle.std.proofs.Common.{◌≡◌, ◌≢◌, ℕ, ◌+◌, ◌≤◌, inl, inr, ⊎_elim, Bool, true, false, cond, List, [], ◌∷◌, ◌++◌, length, Option, Some, None, sym, ap, subst, ◌∙◌, refl, append_assoc, append-nil, arith}
 use Rattle.std.specs.Prelude.{if◌then◌else◌, nat_le, Result, Ok, Err}
 use Rattle.std.specs.List.{Contains}
 use Rattle.std.proofs.lemmas.List.{take_all, length-append}
@@ -24,13 +24,20 @@ use Rattle.script_lines.specs.declared.request.Ask.TheVariants as ask
 use Rattle.script_lines.specs.declared.request.Request.{Request}
 use Rattle.transcript.specs.declared.entry.Entry.{Entry}
 use Rattle.transcript.specs.declared.entry.Entry.TheVariants as entry
-use Rattle.incr_analysis.specs.Full.{AreUnits, Full, has_main, knows_performer}
-use Rattle.script_lines.specs.Answer.{with_ask, accepted, is_edit, newest, is_run, runs_taken, IsTaken, IsOver, NoneOpen, IsSettled, SaysOutcome, SaysRun, AnswersAsk}
-use Rattle.plain_run.specs.RunEntries.{output_entries, end_entries, trace_entries, begun_entries, checked_entries, trace_of, run_entries, IsRunOf}
+use Rattle.incr_analysis.specs.Full.{Full, has_main}
+use Rattle.performer_kit.specs.declared.commands.Command.{Command}
+use Rattle.performer_kit.specs.declared.commands.Command.TheVariants.{Robot, Pen}
+use Rattle.robot_field.specs.Board.{Board, usual}
+use Rattle.kumir_meaning.specs.Program.{program_of}
+use Rattle.closed_meaning.proofs.Plays.{play_is_answered}
+use Rattle.closed_meaning.proofs.Known.{known_laws}
+use Rattle.script_lines.specs.Answer.{with_ask, accepted, is_edit, newest, is_run, runs_taken, IsTaken, IsOver, NoneOpen, IsSettled, SaysOutcome, Answer}
+use Rattle.script_lines.specs.Answer as answers
+use Rattle.plain_run.specs.RunEntries.{Performers, ready_on, with_command, report, act_entries, end_entries, run_entries, IsRunOfUnits, IsRunOf}
+use Rattle.plain_run.specs.Fields.{LeavesField, LeaveField, IsFieldBehind}
 use Rattle.plain_run.specs.Kept.{Kept, begun_with}
-use Rattle.plain_run.specs.Plain.{AnswersRun, AnswersYet, IsMarginOf, inputs_of, StandsBehind, AreAnswers, IsPlain}
-use Rattle.plain_run.specs.Carried.{IsNewestMargin, Alone, with_edit, with_run, SaysEdit, TakesRun, RunsUnless, Answers, Carries}
-use Rattle.plain_run.proofs.SilentRuns.{AwaitsNothing, units_silent}
+use Rattle.plain_run.specs.Plain.{IsMarginOf, StandsBehind, AreAnswers, IsPlain}
+use Rattle.plain_run.specs.Carried.{IsNewestMargin, Alone, with_run, SaysEdit, SaysRun, SaysField, Answers, Carries}
 
 -- ---- entries of which each run is over
 
@@ -69,49 +76,57 @@ none_open entries over run is_open = is_open.going (over run is_open.taken.0 is_
 
 -- ---- the entries of a run end it
 
-outputs_over : (r : ℕ) (acts : List Act) → AreOver (output_entries r acts)
-outputs_over r [] = none_over
-outputs_over r (Printed text ∷ acts) = all_over (entry.Out r text ∷ []) (output_entries r acts) (one_over (entry.Out r text) (λ run v same. let none : ⊥ = cc in none)) (outputs_over r acts)
-outputs_over r (Sent command ∷ acts) = outputs_over r acts
+report_over : (r : ℕ) (w : Performers) (command : Command) → AreOver (report r w command ∷ [])
+report_over r w (Robot command) = one_over (report r w (Robot command)) (λ run v same. let none : ⊥ = cc in none)
+report_over r w (Pen command) = one_over (report r w (Pen command)) (λ run v same. let none : ⊥ = cc in none)
+
+acts_over : (r : ℕ) (w : Performers) (acts : List Act) → AreOver (act_entries r w acts)
+acts_over r w [] = none_over
+acts_over r w (Printed text ∷ acts) = all_over (entry.Out r text ∷ []) (act_entries r w acts) (one_over (entry.Out r text) (λ run v same. let none : ⊥ = cc in none)) (acts_over r w acts)
+acts_over r w (Sent command ∷ acts) = all_over (report r w command ∷ []) (act_entries r (with_command w command) acts) (report_over r w command) (acts_over r (with_command w command) acts)
 
 end_over : (r : ℕ) (o : Option EndKind) → AreOver (end_entries r o)
 end_over r None = none_over
 end_over r (Some kind) = one_over (entry.End r kind) (λ run v same. let none : ⊥ = cc in none)
 
-run_over : (faults : List Fault) (main : Bool) (r : ℕ) (t : Trace) → AreOver (checked_entries faults main r t)
-run_over (f ∷ faults) main r t = one_over (entry.RefusedFaults r) (λ run v same. let none : ⊥ = cc in none)
-run_over [] false r t = one_over (entry.RefusedMain r) (λ run v same. let none : ⊥ = cc in none)
-run_over [] true r t = all_over (output_entries r t.acts) (end_entries r (end_of t.state)) (outputs_over r t.acts) (end_over r (end_of t.state))
+run_over : (faults : List Fault) (main : Bool) (r : ℕ) (field : Board) (play : Trace) → AreOver (run_entries faults main r field play)
+run_over (f ∷ faults) main r field play = one_over (entry.RefusedFaults r) (λ run v same. let none : ⊥ = cc in none)
+run_over [] false r field play = one_over (entry.RefusedMain r) (λ run v same. let none : ⊥ = cc in none)
+run_over [] true r field play = all_over (act_entries r (ready_on field) play.acts) (end_entries r (end_of play.state)) (acts_over r (ready_on field) play.acts) (end_over r (end_of play.state))
 
-has_end : (r : ℕ) (s : RunState) → AwaitsNothing s → IsOver (end_entries r (end_of s)) r
+has_end : (r : ℕ) (s : RunState) → s ≢ state.Awaiting → IsOver (end_entries r (end_of s)) r
 has_end r state.Going a = inr (inr (_, Contains-push [] (entry.End r _)))
-has_end r state.Awaiting a = absurd a
+has_end r state.Awaiting a = absurd (a refl)
 has_end r state.Done a = inr (inr (_, Contains-push [] (entry.End r _)))
 has_end r state.Quit a = inr (inr (_, Contains-push [] (entry.End r _)))
 has_end r (state.Assert line) a = inr (inr (_, Contains-push [] (entry.End r _)))
 has_end r (state.Fault line fault) a = inr (inr (_, Contains-push [] (entry.End r _)))
 has_end r (state.Wall line) a = inr (inr (_, Contains-push [] (entry.End r _)))
 
-ends_run : (faults : List Fault) (main : Bool) (r : ℕ) (t : Trace) → AwaitsNothing t.state → IsOver (checked_entries faults main r t) r
-ends_run (f ∷ faults) main r t a = inl (Contains-push [] (entry.RefusedFaults r))
-ends_run [] false r t a = inr (inl (Contains-push [] (entry.RefusedMain r)))
-ends_run [] true r t a = over_right (output_entries r t.acts) (end_entries r (end_of t.state)) r (has_end r t.state a)
+ends_run : (faults : List Fault) (main : Bool) (r : ℕ) (field : Board) (play : Trace) → play.state ≢ state.Awaiting → IsOver (run_entries faults main r field play) r
+ends_run (f ∷ faults) main r field play a = inl (Contains-push [] (entry.RefusedFaults r))
+ends_run [] false r field play a = inr (inl (Contains-push [] (entry.RefusedMain r)))
+ends_run [] true r field play a = over_right (act_entries r (ready_on field) play.acts) (end_entries r (end_of play.state)) r (has_end r play.state a)
 
 number_of_run : (r v q w : ℕ) → entry.Run r v ≡ entry.Run q w → r ≡ q
 number_of_run r v q w e = cc
 
--- a run and its entries, where no performer is known
-pub taken_over : (budget r v : ℕ) (inputs : List Value) (units : List (ℕ × Known)) → knows_performer units ≡ false → AreOver (entry.Run r v ∷ run_entries budget r inputs units)
-taken_over budget r v inputs units alone q w c =
-    let t = trace_of budget inputs units in
-    let entries = run_entries budget r inputs units in
+-- a run and its entries
+begun_over : (r v : ℕ) (entries : List Entry) → AreOver entries → IsOver entries r → AreOver (entry.Run r v ∷ entries)
+begun_over r v entries over ends q w c =
     ⊎_elim
     (λ first. ⊎_elim (λ b. absurd (nothing_in (entry.Run q w) b))
-    (λ same. over_right (entry.Run r v ∷ []) entries q (subst (IsOver entries) (number_of_run r v q w same)
-    (ends_run (program_faults units) (has_main units) r t (units_silent units inputs [] budget alone).1)))
+    (λ same. over_right (entry.Run r v ∷ []) entries q (subst (IsOver entries) (number_of_run r v q w same) ends))
     (Contains-push_cases [] (entry.Run r v) (entry.Run q w) first))
-    (λ rest. over_right (entry.Run r v ∷ []) entries q (run_over (program_faults units) (has_main units) r t q w rest))
+    (λ rest. over_right (entry.Run r v ∷ []) entries q (over q w rest))
     (Contains-append_cases (entry.Run r v ∷ []) entries (entry.Run q w) c)
+
+pub taken_over : (budget r v : ℕ) (inputs : List Value) (field : Board) (units : List (ℕ × Known)) (entries : List Entry) → IsRunOfUnits budget r inputs field units entries → AreOver (entry.Run r v ∷ entries)
+taken_over budget r v inputs field units entries run =
+    let play = run.0 in
+    let answered = play_is_answered known_laws (program_of units) inputs field budget play run.1 in
+    let over = begun_over r v (run_entries (program_faults units) (has_main units) r field play) (run_over (program_faults units) (has_main units) r field play) (ends_run (program_faults units) (has_main units) r field play answered) in
+    subst (λ es. AreOver (entry.Run r v ∷ es)) (sym run.2) over
 
 -- ---- and make no version and take no run on
 
@@ -123,25 +138,44 @@ quiet_then : (xs ys : List Entry) → AreQuiet xs → AreQuiet ys → AreQuiet (
 quiet_then [] ys p q = q
 quiet_then (x ∷ xs) ys p q = (p.0, p.1, quiet_then xs ys p.2 q)
 
-outputs_quiet : (r : ℕ) (acts : List Act) → AreQuiet (output_entries r acts)
-outputs_quiet r [] = tt
-outputs_quiet r (Printed text ∷ acts) = (refl, refl, outputs_quiet r acts)
-outputs_quiet r (Sent command ∷ acts) = outputs_quiet r acts
+report_quiet : (r : ℕ) (w : Performers) (command : Command) → AreQuiet (report r w command ∷ [])
+report_quiet r w (Robot command) = (refl, refl, tt)
+report_quiet r w (Pen command) = (refl, refl, tt)
+
+acts_quiet : (r : ℕ) (w : Performers) (acts : List Act) → AreQuiet (act_entries r w acts)
+acts_quiet r w [] = tt
+acts_quiet r w (Printed text ∷ acts) = (refl, refl, acts_quiet r w acts)
+acts_quiet r w (Sent command ∷ acts) = quiet_then (report r w command ∷ []) (act_entries r (with_command w command) acts) (report_quiet r w command) (acts_quiet r (with_command w command) acts)
 
 end_quiet : (r : ℕ) (o : Option EndKind) → AreQuiet (end_entries r o)
 end_quiet r None = tt
 end_quiet r (Some kind) = (refl, refl, tt)
 
-run_quiet : (faults : List Fault) (main : Bool) (r : ℕ) (t : Trace) → AreQuiet (checked_entries faults main r t)
-run_quiet (f ∷ faults) main r t = (refl, refl, tt)
-run_quiet [] false r t = (refl, refl, tt)
-run_quiet [] true r t = quiet_then (output_entries r t.acts) (end_entries r (end_of t.state)) (outputs_quiet r t.acts) (end_quiet r (end_of t.state))
+entries_quiet : (faults : List Fault) (main : Bool) (r : ℕ) (field : Board) (play : Trace) → AreQuiet (run_entries faults main r field play)
+entries_quiet (f ∷ faults) main r field play = (refl, refl, tt)
+entries_quiet [] false r field play = (refl, refl, tt)
+entries_quiet [] true r field play = quiet_then (act_entries r (ready_on field) play.acts) (end_entries r (end_of play.state)) (acts_quiet r (ready_on field) play.acts) (end_quiet r (end_of play.state))
+
+run_quiet : (budget r : ℕ) (inputs : List Value) (field : Board) (units : List (ℕ × Known)) (entries : List Entry) → IsRunOfUnits budget r inputs field units entries → AreQuiet entries
+run_quiet budget r inputs field units entries run = subst AreQuiet (sym run.2) (entries_quiet (program_faults units) (has_main units) r field run.0)
+
+-- ---- the field
+
+leave_push : (old between new : Board) (earlier : List Request) (r : Request) → LeaveField old earlier between → LeavesField between r.ask new → LeaveField old (earlier ++ r ∷ []) new
+unfolding LeaveField
+leave_push old between new [] r left leaves = (new, subst (λ b. LeavesField b r.ask new) left leaves, refl)
+leave_push old between new (x ∷ earlier) r left leaves = (left.0, left.1, leave_push left.0 between new earlier r left.2 leaves)
+
+leave_none : LeaveField usual [] usual
+unfolding LeaveField
+leave_none = refl
 
 -- ---- the rule
 
 -- what holds behind the answers to the earlier requests, where this is kept
 record Stands (earlier : List Request) (before : List Entry) (kept : Kept) : Type 0 where
   edits : accepted earlier ≡ kept.edits
+  field : IsFieldBehind earlier kept.field
   counted : newest before ≡ length kept.edits
   taken : runs_taken before ≡ kept.runs
   over : AreOver before
@@ -187,23 +221,29 @@ accepted_push earlier r edits kept = fold_push (λ es q. with_ask es q.ask) [] e
 abbrev Step : List Request → List Entry → Kept → Request → List Entry → Kept → Type 0
 Step earlier before kept r first after =
     (answer : Entry) × (behind : List Entry)
-    × AnswersYet earlier before r.line r.ask answer
-    × StandsBehind kept.budget (accepted (earlier ++ r ∷ [])) (inputs_of r.ask) answer behind
+    × Answer earlier before r answer
+    × StandsBehind kept.budget (earlier ++ r ∷ []) r.ask answer behind
     × Stands (earlier ++ r ∷ []) (before ++ answer ∷ behind) after
     × (after.budget ≡ kept.budget)
     × (first ≡ answer ∷ behind)
 
-step_alone : (earlier : List Request) (before : List Entry) (kept : Kept) (r : Request) (e : Entry) (first : List Entry) (after : Kept) → Stands earlier before kept → Alone e kept first after → with_ask kept.edits r.ask ≡ kept.edits → is_edit e ≡ false → is_run e ≡ false → IsNoRun e → AnswersYet earlier before r.line r.ask e → StandsBehind kept.budget (accepted (earlier ++ r ∷ [])) (inputs_of r.ask) e [] → Step earlier before kept r first after
-step_alone earlier before kept r e first after s alone same not_edit not_run other answer behind =
-    let stands : Stands (earlier ++ r ∷ []) (before ++ e ∷ []) kept = record {
+-- one entry, and another field at most
+step_one : (earlier : List Request) (before : List Entry) (kept : Kept) (field : Board) (r : Request) (e : Entry) (first : List Entry) (after : Kept) → Stands earlier before kept → first ≡ e ∷ [] → after ≡ record kept { field = field } → LeavesField kept.field r.ask field → with_ask kept.edits r.ask ≡ kept.edits → is_edit e ≡ false → is_run e ≡ false → IsNoRun e → Answer earlier before r e → StandsBehind kept.budget (earlier ++ r ∷ []) r.ask e [] → Step earlier before kept r first after
+step_one earlier before kept field r e first after s is then_kept leaves same not_edit not_run other answer behind =
+    let stands : Stands (earlier ++ r ∷ []) (before ++ e ∷ []) (record kept { field = field }) = record {
       edits = accepted_push earlier r kept.edits s.edits ∙ same;
+      field = leave_push usual kept.field field earlier r s.field leaves;
       counted = same_newest before e not_edit ∙ s.counted;
       taken = same_taken before e not_run ∙ s.taken;
       over = all_over before (e ∷ []) s.over (one_over e other);
       marks = s.marks;
       shown = Contains-append_left before (e ∷ []) (entry.Margin (length kept.edits) s.marks) s.shown;
     } in
-    (e, [], answer, behind, subst (λ k. Stands (earlier ++ r ∷ []) (before ++ e ∷ []) k) (sym alone.1) stands, ap (λ k. k.budget) alone.1, alone.0)
+    (e, [], answer, behind, subst (λ k. Stands (earlier ++ r ∷ []) (before ++ e ∷ []) k) (sym then_kept) stands, ap (λ k. k.budget) then_kept, is)
+
+step_alone : (earlier : List Request) (before : List Entry) (kept : Kept) (r : Request) (e : Entry) (first : List Entry) (after : Kept) → Stands earlier before kept → Alone e kept first after → LeavesField kept.field r.ask kept.field → with_ask kept.edits r.ask ≡ kept.edits → is_edit e ≡ false → is_run e ≡ false → IsNoRun e → Answer earlier before r e → StandsBehind kept.budget (earlier ++ r ∷ []) r.ask e [] → Step earlier before kept r first after
+step_alone earlier before kept r e first after s alone leaves same not_edit not_run other answer behind =
+    step_one earlier before kept kept.field r e first after s alone.0 alone.1 leaves same not_edit not_run other answer behind
 
 -- ---- edits
 
@@ -225,8 +265,8 @@ newest_margin : (edits : List Edit) (margin : Entry) → IsNewestMargin edits ma
 newest_margin edits margin m = (m.0, subst (λ lines. Full lines m.0) (sym (newest_text edits)) m.1, m.2)
 
 -- `edit V` and the margin of version V
-step_stands : (earlier : List Request) (before : List Entry) (kept after : Kept) (r : Request) (e : Edit) (v : ℕ) (margin : Entry) → Stands earlier before kept → accepted (earlier ++ r ∷ []) ≡ after.edits → length after.edits ≡ length kept.edits + 1 → after.runs ≡ kept.runs → IsNewestMargin after.edits margin → Stands (earlier ++ r ∷ []) (before ++ entry.Edit v ∷ margin ∷ []) after
-step_stands earlier before kept after r e v margin s accepts more same m =
+step_stands : (earlier : List Request) (before : List Entry) (kept after : Kept) (r : Request) (e : Edit) (v : ℕ) (margin : Entry) → Stands earlier before kept → LeavesField kept.field r.ask after.field → accepted (earlier ++ r ∷ []) ≡ after.edits → length after.edits ≡ length kept.edits + 1 → after.runs ≡ kept.runs → IsNewestMargin after.edits margin → Stands (earlier ++ r ∷ []) (before ++ entry.Edit v ∷ margin ∷ []) after
+step_stands earlier before kept after r e v margin s leaves accepts more same m =
     let entries : before ++ entry.Edit v ∷ margin ∷ [] ≡ (before ++ entry.Edit v ∷ []) ++ margin ∷ [] = sym (append_assoc before (entry.Edit v ∷ []) (margin ∷ [])) in
     let no_edit : is_edit margin ≡ false = ap is_edit m.2 in
     let no_run : is_run margin ≡ false = ap is_run m.2 in
@@ -234,6 +274,7 @@ step_stands earlier before kept after r e v margin s accepts more same m =
     let edit_over : AreOver (entry.Edit v ∷ []) = one_over (entry.Edit v) (λ run w is. let none : ⊥ = cc in none) in
     let stands : Stands (earlier ++ r ∷ []) ((before ++ entry.Edit v ∷ []) ++ margin ∷ []) after = record {
       edits = accepts;
+      field = leave_push usual kept.field after.field earlier r s.field leaves;
       counted = same_newest (before ++ entry.Edit v ∷ []) margin no_edit ∙ newest_push before (entry.Edit v) ∙ omega (arith, s.counted, more);
       taken = same_taken (before ++ entry.Edit v ∷ []) margin no_run ∙ same_taken before (entry.Edit v) refl ∙ s.taken ∙ sym same;
       over = all_over (before ++ entry.Edit v ∷ []) (margin ∷ []) (all_over before (entry.Edit v ∷ []) s.over edit_over) margin_over;
@@ -251,20 +292,20 @@ step_accepted earlier before kept line e v first after s is says =
     let more : length after.edits ≡ length kept.edits + 1 = ap length edits ∙ length-append kept.edits (e ∷ []) in
     let accepts : accepted (earlier ++ r ∷ []) ≡ after.edits = accepted_push earlier r kept.edits s.edits ∙ rw is (sym edits) in
     let now : v ≡ length after.edits = number ∙ sym more in
-    let answer : AnswersYet earlier before line (ask.Edit e) (entry.Edit v) = subst (λ es. SaysOutcome before (answer_to text_limits es e) (entry.Edit v)) (sym s.edits) (subst (λ o. SaysOutcome before o (entry.Edit v)) (sym is) (ap entry.Edit (let next : v ≡ newest before + 1 = omega (arith, number, s.counted) in next))) in
+    let answer : Answer earlier before r (entry.Edit v) = subst (λ es. SaysOutcome before (answer_to text_limits es e) (entry.Edit v)) (sym s.edits) (subst (λ o. SaysOutcome before o (entry.Edit v)) (sym is) (ap entry.Edit (let next : v ≡ newest before + 1 = omega (arith, number, s.counted) in next))) in
     let full : IsMarginOf (accepted (earlier ++ r ∷ [])) v margin = subst (λ es. IsMarginOf es v margin) (sym accepts) (subst (λ n. IsMarginOf after.edits n margin) (sym now) (newest_margin after.edits margin says.1)) in (
       entry.Edit v,
       margin ∷ [],
       answer,
       (margin, full, refl),
-      step_stands earlier before kept after r e v margin s accepts more (ap (λ k. k.runs) says.2) says.1,
+      step_stands earlier before kept after r e v margin s (ap (λ k. k.field) says.2) accepts more (ap (λ k. k.runs) says.2) says.1,
       ap (λ k. k.budget) says.2,
       says.3,
     )
 
-step_refused : (earlier : List Request) (before : List Entry) (kept : Kept) (line : ℕ) (e : Edit) (why : ApplyRefusal) (x : Entry) (first : List Entry) (after : Kept) → Stands earlier before kept → answer_to text_limits kept.edits e ≡ Err why → Alone x kept first after → SaysOutcome before (Err why) x → is_edit x ≡ false → is_run x ≡ false → IsNoRun x → StandsBehind kept.budget (accepted (earlier ++ record { line = line; ask = ask.Edit e } ∷ [])) [] x [] → Step earlier before kept (record { line = line; ask = ask.Edit e }) first after
+step_refused : (earlier : List Request) (before : List Entry) (kept : Kept) (line : ℕ) (e : Edit) (why : ApplyRefusal) (x : Entry) (first : List Entry) (after : Kept) → Stands earlier before kept → answer_to text_limits kept.edits e ≡ Err why → Alone x kept first after → SaysOutcome before (Err why) x → is_edit x ≡ false → is_run x ≡ false → IsNoRun x → StandsBehind kept.budget (earlier ++ record { line = line; ask = ask.Edit e } ∷ []) (ask.Edit e) x [] → Step earlier before kept (record { line = line; ask = ask.Edit e }) first after
 step_refused earlier before kept line e why x first after s is alone says no_edit no_run other behind =
-    step_alone earlier before kept (record { line = line; ask = ask.Edit e }) x first after s alone (rw is refl) no_edit no_run other
+    step_alone earlier before kept (record { line = line; ask = ask.Edit e }) x first after s alone refl (rw is refl) no_edit no_run other
     (subst (λ es. SaysOutcome before (answer_to text_limits es e) x) (sym s.edits) (subst (λ o. SaysOutcome before o x) (sym is) says)) behind
 
 step_edit : (earlier : List Request) (before : List Entry) (kept : Kept) (line : ℕ) (e : Edit) (outcome : Result ℕ ApplyRefusal) (first : List Entry) (after : Kept) → Stands earlier before kept → answer_to text_limits kept.edits e ≡ outcome → SaysEdit outcome kept e first after → Step earlier before kept (record { line = line; ask = ask.Edit e }) first after
@@ -280,46 +321,50 @@ step_edit earlier before kept line e (Err refusal.Memory) first after s is says 
 run_text : (earlier : List Request) (before : List Entry) (kept : Kept) → Stands earlier before kept → version (accepted earlier) (newest before) ≡ text_after kept.edits
 run_text earlier before kept s = ap (λ es. version es (newest before)) s.edits ∙ ap (version kept.edits) s.counted ∙ newest_text kept.edits
 
-step_run : (earlier : List Request) (before : List Entry) (kept : Kept) (line : ℕ) (inputs : List Value) (units : List (ℕ × Known)) (first : List Entry) (after : Kept) → Stands earlier before kept → AreUnits (text_after kept.edits) units → knows_performer units ≡ false → TakesRun kept units inputs first after → Step earlier before kept (record { line = line; ask = ask.Run inputs }) first after
-step_run earlier before kept line inputs units first after s are alone says =
+step_run : (earlier : List Request) (before : List Entry) (kept : Kept) (line : ℕ) (inputs : List Value) (first : List Entry) (after : Kept) → Stands earlier before kept → SaysRun kept inputs first after → Step earlier before kept (record { line = line; ask = ask.Run inputs }) first after
+step_run earlier before kept line inputs first after s says =
     let r : Request = record { line = line; ask = ask.Run inputs } in
     let number = kept.runs + 1 in
     let v = length kept.edits in
-    let behind = run_entries kept.budget number inputs units in
+    let behind = says.0 in
+    let units = says.1.0 in
     let run = entry.Run number v in
-    let quiet = run_quiet (program_faults units) (has_main units) number (trace_of kept.budget inputs units) in
+    let quiet = run_quiet kept.budget number inputs kept.field units behind says.1.2 in
     let accepts : accepted (earlier ++ r ∷ []) ≡ kept.edits = accepted_push earlier r kept.edits s.edits in
     let next : number ≡ runs_taken before + 1 = omega (arith, s.taken) in
     let same : run ≡ entry.Run (runs_taken before + 1) (newest before) = λ i. entry.Run (next i) (sym s.counted i) in
-    let rule : SaysRun before run = inr (none_open before s.over, same) in
-    let answer : AnswersYet earlier before line (ask.Run inputs) run = (units, subst (λ lines. AreUnits lines units) (sym (run_text earlier before kept s)) are, subst (λ b. AnswersRun b earlier before line (ask.Run inputs) run) (sym alone) rule) in
-    let of_version : IsRunOf kept.budget number inputs (version (accepted (earlier ++ r ∷ [])) v) behind = subst (λ lines. IsRunOf kept.budget number inputs lines behind) (sym (ap (λ es. version es v) accepts ∙ newest_text kept.edits)) (units, are, refl) in
+    let answer : answers.SaysRun before run = inr (none_open before s.over, same) in
+    let on_field : IsFieldBehind (earlier ++ r ∷ []) kept.field = leave_push usual kept.field kept.field earlier r s.field refl in
+    let of_version : IsRunOf kept.budget number inputs kept.field (version (accepted (earlier ++ r ∷ [])) v) behind = subst (λ lines. IsRunOf kept.budget number inputs kept.field lines behind) (sym (ap (λ es. version es v) accepts ∙ newest_text kept.edits)) says.1 in
     let joined : before ++ run ∷ behind ≡ (before ++ run ∷ []) ++ behind = sym (append_assoc before (run ∷ []) behind) in
     let stands : Stands (earlier ++ r ∷ []) (before ++ run ∷ behind) (with_run kept) = record {
       edits = accepts;
+      field = on_field;
       counted = ap newest joined ∙ no_more_edits (before ++ run ∷ []) behind quiet ∙ same_newest before run refl ∙ s.counted;
       taken = ap runs_taken joined ∙ no_more_runs (before ++ run ∷ []) behind quiet ∙ taken_push before run ∙ omega (arith, s.taken);
-      over = all_over before (run ∷ behind) s.over (taken_over kept.budget number v inputs units alone);
+      over = all_over before (run ∷ behind) s.over (taken_over kept.budget number v inputs kept.field units behind says.1.2);
       marks = s.marks;
       shown = Contains-append_left before (run ∷ behind) (entry.Margin v s.marks) s.shown;
     } in
-    (run, behind, answer, of_version, subst (Stands (earlier ++ r ∷ []) (before ++ run ∷ behind)) (sym says.0) stands, ap (λ k. k.budget) says.0, says.1)
+    (run, behind, answer, (kept.field, on_field, of_version), subst (Stands (earlier ++ r ∷ []) (before ++ run ∷ behind)) (sym says.2) stands, ap (λ k. k.budget) says.2, says.3)
 
-step_unless : (earlier : List Request) (before : List Entry) (kept : Kept) (line : ℕ) (inputs : List Value) (units : List (ℕ × Known)) (known : Bool) (first : List Entry) (after : Kept) → Stands earlier before kept → AreUnits (text_after kept.edits) units → knows_performer units ≡ known → RunsUnless known line kept units inputs first after → Step earlier before kept (record { line = line; ask = ask.Run inputs }) first after
-step_unless earlier before kept line inputs units true first after s are is says =
-    step_alone earlier before kept (record { line = line; ask = ask.Run inputs }) (entry.Bad line) first after s says refl refl refl (λ run v same. let none : ⊥ = cc in none)
-    (units, subst (λ lines. AreUnits lines units) (sym (run_text earlier before kept s)) are, subst (λ b. AnswersRun b earlier before line (ask.Run inputs) (entry.Bad line)) (sym is) refl) refl
-step_unless earlier before kept line inputs units false first after s are is says = step_run earlier before kept line inputs units first after s are is says
+-- ---- fields
+
+step_field : (earlier : List Request) (before : List Entry) (kept : Kept) (line : ℕ) (lines : List (List ℕ)) (first : List Entry) (after : Kept) → Stands earlier before kept → SaysField kept lines first after → Step earlier before kept (record { line = line; ask = ask.Field lines }) first after
+step_field earlier before kept line lines first after s (inl says) =
+    step_one earlier before kept says.0 (record { line = line; ask = ask.Field lines }) entry.FieldOk first after s says.2 says.3 (inl says.1) refl refl refl (λ run v same. let none : ⊥ = cc in none) (inl (says.0, says.1, refl)) refl
+step_field earlier before kept line lines first after s (inr says) =
+    step_alone earlier before kept (record { line = line; ask = ask.Field lines }) (entry.FieldBad says.0) first after s says.2 (inr (says.0, says.1, refl)) refl refl refl (λ run v same. let none : ⊥ = cc in none) (inr (says.0, says.1, refl)) refl
 
 -- ---- all requests
 
 step_ask : (earlier : List Request) (before : List Entry) (kept : Kept) (line : ℕ) (a : Ask) (first : List Entry) (after : Kept) → Stands earlier before kept → Answers line a kept first after → Step earlier before kept (record { line = line; ask = a }) first after
 step_ask earlier before kept line (ask.Edit e) first after s says = step_edit earlier before kept line e (answer_to text_limits kept.edits e) first after s refl says
-step_ask earlier before kept line (ask.Field lines) first after s says = step_alone earlier before kept (record { line = line; ask = ask.Field lines }) (entry.Bad line) first after s says refl refl refl (λ run v same. let none : ⊥ = cc in none) refl refl
-step_ask earlier before kept line (ask.Run inputs) first after s says = step_unless earlier before kept line inputs says.0 (knows_performer says.0) first after s says.1 refl says.2
-step_ask earlier before kept line ask.Stop first after s says = step_alone earlier before kept (record { line = line; ask = ask.Stop }) entry.StopIdle first after s says refl refl refl (λ run v same. let none : ⊥ = cc in none) (inr (none_open before s.over, refl)) refl
-step_ask earlier before kept line ask.Wait first after s says = step_alone earlier before kept (record { line = line; ask = ask.Wait }) entry.Waited first after s says refl refl refl (λ run v same. let none : ⊥ = cc in none) (settled earlier before kept s, refl) refl
-step_ask earlier before kept line ask.Bad first after s says = step_alone earlier before kept (record { line = line; ask = ask.Bad }) (entry.Bad line) first after s says refl refl refl (λ run v same. let none : ⊥ = cc in none) refl refl
+step_ask earlier before kept line (ask.Field lines) first after s says = step_field earlier before kept line lines first after s says
+step_ask earlier before kept line (ask.Run inputs) first after s says = step_run earlier before kept line inputs first after s says
+step_ask earlier before kept line ask.Stop first after s says = step_alone earlier before kept (record { line = line; ask = ask.Stop }) entry.StopIdle first after s says refl refl refl refl (λ run v same. let none : ⊥ = cc in none) (inr (none_open before s.over, refl)) refl
+step_ask earlier before kept line ask.Wait first after s says = step_alone earlier before kept (record { line = line; ask = ask.Wait }) entry.Waited first after s says refl refl refl refl (λ run v same. let none : ⊥ = cc in none) (settled earlier before kept s, refl) refl
+step_ask earlier before kept line ask.Bad first after s says = step_alone earlier before kept (record { line = line; ask = ask.Bad }) (entry.Bad line) first after s says refl refl refl refl (λ run v same. let none : ⊥ = cc in none) refl refl
 
 answers_of : (requests earlier : List Request) (before : List Entry) (kept : Kept) (budget : ℕ) (entries : List Entry) (after : Kept) → kept.budget ≡ budget → Stands earlier before kept → Carries kept requests entries after → AreAnswers budget earlier before requests entries
 unfolding Carries AreAnswers
@@ -330,7 +375,7 @@ answers_of (r ∷ requests) earlier before kept budget entries after b s carried
       step.1,
       carried.2,
       step.2,
-      subst (λ n. StandsBehind n (accepted (earlier ++ r ∷ [])) (inputs_of r.ask) step.0 step.1) b step.3,
+      subst (λ n. StandsBehind n (earlier ++ r ∷ []) r.ask step.0 step.1) b step.3,
       answers_of requests (earlier ++ r ∷ []) (before ++ step.0 ∷ step.1) carried.1 budget carried.2 after (step.5 ∙ b) step.4 carried.4,
       carried.5 ∙ ap (λ (es : List Entry). es ++ carried.2) step.6,
     )
@@ -340,6 +385,7 @@ begins : (budget : ℕ) (margin : Entry) → IsNewestMargin [] margin → Stands
 begins budget margin m =
     subst (λ e. Stands [] (e ∷ []) (begun_with budget)) (sym m.2) (record {
       edits = refl;
+      field = leave_none;
       counted = refl;
       taken = refl;
       over = one_over (entry.Margin 0 m.0) (λ run v same. let none : ⊥ = cc in none);

@@ -1,11 +1,9 @@
 -- A script has no more requests than bytes.
-use Rattle.std.proofs.Common.{◌≡◌, ℕ, zero, suc, ◌+◌, ◌≤◌, Bool, true, false, List, [], ◌∷◌, ◌++◌, length, length-append, ap, arith}
+use Rattle.std.proofs.Common.{◌≡◌, ℕ, zero, suc, ◌+◌, ◌≤◌, Bool, true, false, List, [], ◌∷◌, ◌++◌, length, length-append, arith}
 use Rattle.std.specs.Prelude.{if◌then◌else◌, ◌==◌, nat_le, take}
-use Rattle.std.specs.Str.Lines.{strip_carriage_return}
-use Rattle.script_lines.specs.declared.request.Request.{Request}
 use Rattle.script_lines.specs.declared.read.RequestLine.{RequestLine}
 use Rattle.script_lines.specs.declared.read.RequestLine.TheVariants.{Nothing, Alone, EditHead, FieldHead}
-use Rattle.script_lines.specs.Lines.{ended, numbered, numbered_from, ended_lines}
+use Rattle.script_lines.specs.Lines.{ended, numbered_from, ended_lines}
 use Rattle.script_lines.specs.Words.{request_line}
 use Rattle.script_lines.specs.Requests.{lines_wanted, asked, request_at, requests_in, whole}
 

@@ -12,7 +12,8 @@ pub mod Carried
 pub mod Answered
 pub mod ScriptRuns
 pub mod OnePlain
-pub mod SilentRuns
+pub mod Performed
+pub mod Replies
 pub mod Courses
 pub mod FewRequests
 pub mod Mains

@@ -1,24 +1,26 @@
 -- Programs without a fault, with an algorithm to begin with.
-use Rattle.std.proofs.Common.{◌≡◌, ◌≢◌, ℕ, Bool, true, false, List, [], ◌∷◌, ◌++◌, map, length, Option, Some, None, refl, sym, ap, subst, ◌∙◌, arith}
+use Rattle.std.proofs.Common.{◌≡◌, ◌≢◌, ℕ, Bool, true, false, List, [], ◌∷◌, ◌++◌, map, length, Option, Some, refl, sym, ap, ◌∙◌, arith}
 use Rattle.km_base.specs.declared.performers.Performers.{Performers}
 use Rattle.kumir_tree.specs.declared.unit.Fault.{Fault}
 use Rattle.kumir_tree.specs.Part.{Head, Formal}
-use Rattle.kumir_tree.specs.Unit.{Algorithm, Ending, Grown, Prelude, Faulty, Known}
+use Rattle.kumir_tree.specs.Unit.{Ending, Grown, Prelude, Faulty, Known}
 use Rattle.kumir_tree.specs.Sound.{IsSound, EndsUnit}
 use Rattle.kumir_values.specs.declared.value.Value.{Value}
-use Rattle.kumir_names.specs.Callees.{Callee}
 use Rattle.kumir_meaning.specs.Program.{program_of}
 use Rattle.kumir_meaning.specs.Runs.{Trace}
 use Rattle.kumir_compiler.specs.Code.{without_params, entry_of}
 use Rattle.margins.specs.declared.margin.Mark.{Mark}
 use Rattle.type_rules.specs.Counted.{headers_in, header_faults}
 use Rattle.type_rules.specs.Callees.{callee}
-use Rattle.type_check.specs.Margin.{on_line, own_faults, placed_faults, all_placed_faults, program_faults, IsMarginOf}
+use Rattle.type_check.specs.Margin.{on_line, placed_faults, all_placed_faults, program_faults, IsMarginOf}
 use Rattle.transcript.specs.declared.entry.Entry.{Entry}
 use Rattle.transcript.specs.declared.entry.Entry.TheVariants as entry
 use Rattle.incr_analysis.specs.Full.{is_empty, takes_nothing, has_main}
 use Rattle.plain_run.specs.Runnable.{IsRunnable}
-use Rattle.plain_run.specs.RunEntries.{trace_of, trace_entries, begun_entries, checked_entries, run_entries}
+use Rattle.robot_field.specs.Board.{Board}
+use Rattle.closed_meaning.proofs.Plays.{one_play}
+use Rattle.closed_meaning.proofs.Known.{known_laws}
+use Rattle.plain_run.specs.RunEntries.{begun_entries, run_entries, IsTraceOf, IsRunOfUnits}
 
 -- ---- the entry
 
@@ -76,17 +78,23 @@ with_fault faults (x ∷ marks) m some none =
 
 -- ---- the entries of a run
 
-refused_checked : (faults : List Fault) (main : Bool) (r : ℕ) (t : Trace) → faults ≢ [] → checked_entries faults main r t ≡ entry.RefusedFaults r ∷ []
-refused_checked [] main r t some = absurd (some refl)
-refused_checked (f ∷ faults) main r t some = refl
+refused_checked : (faults : List Fault) (main : Bool) (r : ℕ) (field : Board) (play : Trace) → faults ≢ [] → run_entries faults main r field play ≡ entry.RefusedFaults r ∷ []
+refused_checked [] main r field play some = absurd (some refl)
+refused_checked (f ∷ faults) main r field play some = refl
 
-pub refused_faults : (budget r : ℕ) (inputs : List Value) (units : List (ℕ × Known)) → program_faults units ≢ [] → run_entries budget r inputs units ≡ entry.RefusedFaults r ∷ []
-refused_faults budget r inputs units some = refused_checked (program_faults units) (has_main units) r (trace_of budget inputs units) some
+pub refused_faults : (budget r : ℕ) (inputs : List Value) (field : Board) (units : List (ℕ × Known)) → program_faults units ≢ [] → IsRunOfUnits budget r inputs field units (entry.RefusedFaults r ∷ [])
+refused_faults budget r inputs field units some =
+    let w = one_play known_laws (program_of units) inputs field budget in
+    (w.0, w.1, sym (refused_checked (program_faults units) (has_main units) r field w.0 some))
 
-pub refused_main : (budget r : ℕ) (inputs : List Value) (units : List (ℕ × Known)) → program_faults units ≡ [] → has_main units ≡ false → run_entries budget r inputs units ≡ entry.RefusedMain r ∷ []
-refused_main budget r inputs units none main =
-    ap (λ fs. checked_entries fs (has_main units) r (trace_of budget inputs units)) none ∙ ap (λ b. begun_entries b r (trace_of budget inputs units)) main
+-- where there is no fault
+begun_so : (r : ℕ) (field : Board) (units : List (ℕ × Known)) (main : Bool) (play : Trace) → program_faults units ≡ [] → has_main units ≡ main → run_entries (program_faults units) (has_main units) r field play ≡ begun_entries main r field play
+begun_so r field units main play none is = ap (λ fs. run_entries fs (has_main units) r field play) none ∙ ap (λ b. begun_entries b r field play) is
 
-pub told_run : (budget r : ℕ) (inputs : List Value) (units : List (ℕ × Known)) → program_faults units ≡ [] → has_main units ≡ true → run_entries budget r inputs units ≡ trace_entries r (trace_of budget inputs units)
-told_run budget r inputs units none main =
-    ap (λ fs. checked_entries fs (has_main units) r (trace_of budget inputs units)) none ∙ ap (λ b. begun_entries b r (trace_of budget inputs units)) main
+pub refused_main : (budget r : ℕ) (inputs : List Value) (field : Board) (units : List (ℕ × Known)) → program_faults units ≡ [] → has_main units ≡ false → IsRunOfUnits budget r inputs field units (entry.RefusedMain r ∷ [])
+refused_main budget r inputs field units none main =
+    let w = one_play known_laws (program_of units) inputs field budget in
+    (w.0, w.1, sym (begun_so r field units false w.0 none main))
+
+pub told_run : (budget r : ℕ) (inputs : List Value) (field : Board) (units : List (ℕ × Known)) (entries : List Entry) → program_faults units ≡ [] → has_main units ≡ true → IsTraceOf budget r inputs field (program_of units) entries → IsRunOfUnits budget r inputs field units entries
+told_run budget r inputs field units entries none main t = (t.0, t.1, t.2 ∙ sym (begun_so r field units true t.0 none main))

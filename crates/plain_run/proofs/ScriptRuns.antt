@@ -1,9 +1,9 @@
 -- The parts of a run of `plain`, one after another.
-use Rattle.std.proofs.Common.{◌≡◌, ℕ, ◌+◌, ◌<◌, ◌≤◌, inl, inr, List, [], ◌∷◌, ◌++◌, length, Option, Some, sym, ap, subst, ◌∙◌, refl, append_assoc, append-nil, length-append, arith}
+use Rattle.std.proofs.Common.{◌≡◌, ℕ, ◌+◌, ◌<◌, ◌≤◌, inl, inr, List, [], ◌∷◌, ◌++◌, length, Option, Some, sym, ap, subst, ◌∙◌, refl, append_assoc, length-append, arith}
 use Rattle.std.specs.Prelude.{Result, Ok, Err}
 use Rattle.std.specs.Io.KnownBytes.{IsAtEnd}
 use Rattle.km_base.specs.Limits.{script_bytes}
-use Rattle.km_ports.specs.Ports.{SourceState, SinkState, TakesFrom, PutsInto}
+use Rattle.km_ports.specs.Ports.{SourceState, SinkState, TakesFrom}
 use Rattle.km_ports.specs.Whole.{TakesExactly, TakesUpTo}
 use Rattle.km_ports.proofs.PortLaws.{TakesFrom-then, TakesFrom-nothing, IsWhole-at_end, IsLongerThan-taken}
 use Rattle.km_ports.specs.declared.status.Status.{Status}
@@ -13,11 +13,10 @@ use Rattle.script_lines.specs.declared.request.Request.{Request}
 use Rattle.script_lines.specs.Requests.{whole, requests}
 use Rattle.transcript.specs.declared.entry.Entry.{Entry}
 use Rattle.transcript.specs.declared.entry.Entry.TheVariants as entry
-use Rattle.transcript.specs.Print.{print, printed_entry}
 use Rattle.plain_run.specs.Runs.{Ports, ports, NothingFailed}
 use Rattle.plain_run.specs.Ending.{StopsPut}
 use Rattle.plain_run.specs.Kept.{Kept, begun_with}
-use Rattle.plain_run.specs.Plain.{IsPlain, PutsEntries}
+use Rattle.plain_run.specs.Plain.{IsPlain, Shows, PutsEntries}
 use Rattle.plain_run.specs.Carried.{Carries, IsNewestMargin, StopsFor, HasCarried}
 use Rattle.plain_run.specs.Scripts.{IsScriptRun}
 use Rattle.plain_run.proofs.Carried.{puts_carried, puts_nothing, put_behind, carries_few}
@@ -74,15 +73,14 @@ carried_more i0 i1 i2 o0 o1 o2 fed piece a b c p q = record {
 }
 
 -- the whole run
-pub whole_plain : (budget : ℕ) (margin : Entry) (fed : List ℕ) (more last : List Request) (b c : Kept) (w0 w1 w2 w3 w4 : SinkState) → IsNewestMargin [] margin → PutsInto w0 w1 (print (margin ∷ [])) → whole fed ≡ whole [] ++ more → requests fed ≡ whole fed ++ last → PutsEntries (λ es. Carries (begun_with budget) more es b) w1 w2 → PutsEntries (λ es. Carries b last es c) w2 w3 → PutsInto w3 w4 (printed_entry entry.Bye) → PutsEntries (IsPlain budget (requests fed)) w0 w4
+pub whole_plain : (budget : ℕ) (margin : Entry) (fed : List ℕ) (more last : List Request) (b c : Kept) (w0 w1 w2 w3 w4 : SinkState) → IsNewestMargin [] margin → Shows (margin ∷ []) w0 w1 → whole fed ≡ whole [] ++ more → requests fed ≡ whole fed ++ last → PutsEntries (λ es. Carries (begun_with budget) more es b) w1 w2 → PutsEntries (λ es. Carries b last es c) w2 w3 → Shows (entry.Bye ∷ []) w3 w4 → PutsEntries (IsPlain budget (requests fed)) w0 w4
 whole_plain budget margin fed more last b c w0 w1 w2 w3 w4 m pm em el pa pl pb =
     let none : whole [] ≡ [] = refl in
     let both = puts_carried more last (begun_with budget) b c w1 w2 w3 pa pl in
-    let all : requests fed ≡ more ++ last = el ∙ ap (λ rs. rs ++ last) (em ∙ ap (λ rs. rs ++ more) none) in
-    let bye : PutsInto w3 w4 (print (entry.Bye ∷ [])) = subst (PutsInto w3 w4) (sym (append-nil (printed_entry entry.Bye))) pb in (
+    let all : requests fed ≡ more ++ last = el ∙ ap (λ rs. rs ++ last) (em ∙ ap (λ rs. rs ++ more) none) in (
       margin ∷ both.0 ++ entry.Bye ∷ [],
       plain_of budget (requests fed) margin both.0 c m (subst (λ rs. Carries (begun_with budget) rs both.0 c) (sym all) both.1),
-      put_behind (margin ∷ []) (both.0 ++ entry.Bye ∷ []) w0 w1 w4 pm (put_behind both.0 (entry.Bye ∷ []) w1 w3 w4 both.2 bye),
+      put_behind (margin ∷ []) (both.0 ++ entry.Bye ∷ []) w0 w1 w4 pm (put_behind both.0 (entry.Bye ∷ []) w1 w3 w4 both.2 pb),
     )
 
 -- ---- the status
@@ -172,11 +170,11 @@ more_carried i0 i1 i2 o0 o1 o2 fed a b c reader count room most e fits p q =
     (fed ++ q.0, q.2, length-append fed q.0 ∙ ap (λ n. length fed + n) q.1, carried_more i0 i1 i2 o0 o1 o2 fed q.0 a b c p q.3)
 
 -- the margin of the empty version was put, then what all lines complete, then what the end completes, then `bye`
-pub plain_put : (budget : ℕ) (fed : List ℕ) (more : List Request) (a b c : Kept) (w0 w1 w2 w3 w4 : SinkState) → a ≡ begun_with budget → PutsEntries (λ es. (m : Entry) × IsNewestMargin a.edits m × (es ≡ m ∷ [])) w0 w1 → whole fed ≡ whole [] ++ more → PutsEntries (λ es. Carries a more es b) w1 w2 → PutsEntries (λ es. (l : List Request) × (requests fed ≡ whole fed ++ l) × Carries b l es c) w2 w3 → PutsInto w3 w4 (printed_entry entry.Bye) → PutsEntries (IsPlain budget (requests fed)) w0 w4
+pub plain_put : (budget : ℕ) (fed : List ℕ) (more : List Request) (a b c : Kept) (w0 w1 w2 w3 w4 : SinkState) → a ≡ begun_with budget → PutsEntries (λ es. (m : Entry) × IsNewestMargin a.edits m × (es ≡ m ∷ [])) w0 w1 → whole fed ≡ whole [] ++ more → PutsEntries (λ es. Carries a more es b) w1 w2 → PutsEntries (λ es. (l : List Request) × (requests fed ≡ whole fed ++ l) × Carries b l es c) w2 w3 → Shows (entry.Bye ∷ []) w3 w4 → PutsEntries (IsPlain budget (requests fed)) w0 w4
 plain_put budget fed more a b c w0 w1 w2 w3 w4 none m em more_put last_put bye =
     whole_plain budget m.1.0 fed more last_put.1.0 b c w0 w1 w2 w3 w4
     (subst (λ kept. IsNewestMargin kept.edits m.1.0) none m.1.1)
-    (subst (λ es. PutsInto w0 w1 (print es)) m.1.2 m.2)
+    (subst (λ es. Shows es w0 w1) m.1.2 m.2)
     em last_put.1.1
     (subst (λ kept. PutsEntries (λ es. Carries kept more es b) w1 w2) none more_put)
     (last_put.0, last_put.1.2, last_put.2)

@@ -1,5 +1,5 @@
 -- How the code goes over requests: it keeps the accepted edits and the number of runs, and no entries.
-use Rattle.std.specs.Prelude.{◌≡◌, ℕ, ◌+◌, Bool, true, false, List, [], ◌∷◌, ◌++◌, length, Result, Ok, Err}
+use Rattle.std.specs.Prelude.{◌≡◌, ℕ, ◌+◌, ◌⊎◌, List, [], ◌∷◌, ◌++◌, length, Result, Ok, Err}
 use Rattle.km_ports.specs.Ports.{Rose, TakesFrom}
 use Rattle.km_ports.specs.Whole.{TakesExactly}
 use Rattle.km_ports.specs.declared.status.Status.{Status}
@@ -17,11 +17,12 @@ use Rattle.script_lines.specs.declared.request.Request.{Request}
 use Rattle.script_lines.specs.Requests.{whole}
 use Rattle.transcript.specs.declared.entry.Entry.{Entry}
 use Rattle.transcript.specs.declared.entry.Entry.TheVariants as entry
-use Rattle.kumir_tree.specs.Unit.{Known}
 use Rattle.kumir_values.specs.declared.value.Value.{Value}
-use Rattle.incr_analysis.specs.Full.{AreUnits, Full, knows_performer}
+use Rattle.robot_field.specs.Board.{Board}
+use Rattle.robot_field.specs.FieldText.{IsFieldText, IsFirstBad}
+use Rattle.incr_analysis.specs.Full.{Full}
 use Rattle.plain_run.specs.Runs.{Ports, NothingFailed}
-use Rattle.plain_run.specs.RunEntries.{run_entries}
+use Rattle.plain_run.specs.RunEntries.{IsRunOf}
 use Rattle.plain_run.specs.Kept.{Kept}
 use Rattle.plain_run.specs.Plain.{PutsEntries}
 
@@ -48,27 +49,23 @@ SaysEdit (Err refusal.TooLong) kept e entries after = Alone entry.EditLong kept 
 SaysEdit (Err refusal.TooMany) kept e entries after = Alone entry.EditMany kept entries after
 SaysEdit (Err refusal.Memory) kept e entries after = ⊥
 
--- the next run, of the newest version, which has these units
-abbrev pub TakesRun : Kept → List (ℕ × Known) → List Value → List Entry → Kept → Type 0
-TakesRun kept units inputs entries after =
-    (after ≡ with_run kept)
-    × (entries ≡ entry.Run (kept.runs + 1) (length kept.edits) ∷ run_entries kept.budget (kept.runs + 1) inputs units)
+-- the next run, of the newest version, on the field that is kept
+abbrev pub SaysRun : Kept → List Value → List Entry → Kept → Type 0
+SaysRun kept inputs entries after =
+    (behind : List Entry) × IsRunOf kept.budget (kept.runs + 1) inputs kept.field (text_after kept.edits) behind
+    × (after ≡ with_run kept) × (entries ≡ entry.Run (kept.runs + 1) (length kept.edits) ∷ behind)
 
--- it is carried out unless the version makes a performer known
-abbrev pub RunsUnless : Bool → ℕ → Kept → List (ℕ × Known) → List Value → List Entry → Kept → Type 0
-RunsUnless true line kept units inputs entries after = Alone (entry.Bad line) kept entries after
-RunsUnless false line kept units inputs entries after = TakesRun kept units inputs entries after
-
-abbrev pub SaysRun : ℕ → Kept → List Value → List Entry → Kept → Type 0
-SaysRun line kept inputs entries after =
-    (units : List (ℕ × Known)) × AreUnits (text_after kept.edits) units
-    × RunsUnless (knows_performer units) line kept units inputs entries after
+-- lines that are a field take the place of the field that is kept, and else it stays
+abbrev pub SaysField : Kept → List (List ℕ) → List Entry → Kept → Type 0
+SaysField kept lines entries after =
+    ((field : Board) × IsFieldText lines field × (entries ≡ entry.FieldOk ∷ []) × (after ≡ record kept { field = field }))
+    ⊎ ((bad : ℕ) × IsFirstBad lines bad × Alone (entry.FieldBad bad) kept entries after)
 
 -- the entries that answer what the request at that line asks for, where this is kept, and what is kept then
 abbrev pub Answers : ℕ → Ask → Kept → List Entry → Kept → Type 0
 Answers line (ask.Edit e) kept entries after = SaysEdit (answer_to text_limits kept.edits e) kept e entries after
-Answers line (ask.Field lines) kept entries after = Alone (entry.Bad line) kept entries after
-Answers line (ask.Run inputs) kept entries after = SaysRun line kept inputs entries after
+Answers line (ask.Field lines) kept entries after = SaysField kept lines entries after
+Answers line (ask.Run inputs) kept entries after = SaysRun kept inputs entries after
 Answers line ask.Stop kept entries after = Alone entry.StopIdle kept entries after
 Answers line ask.Wait kept entries after = Alone entry.Waited kept entries after
 Answers line ask.Bad kept entries after = Alone (entry.Bad line) kept entries after

@@ -14,3 +14,5 @@ pub mod Sessions
 pub mod Carried
 pub mod Scripts
 pub mod OnePlain
+pub mod Fields
+pub mod Performing

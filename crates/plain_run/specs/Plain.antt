@@ -1,7 +1,6 @@
 -- The plain transcript of a script's requests: each is answered, and its version analysed or its run carried out, before
 -- the next one. docs/PROGRAM.md, "plain".
-use Rattle.std.specs.Prelude.{◌≡◌, ℕ, Bool, true, false, List, [], ◌∷◌, ◌++◌}
-use Rattle.kumir_tree.specs.Unit.{Known}
+use Rattle.std.specs.Prelude.{◌≡◌, ℕ, List, [], ◌∷◌, ◌++◌, All}
 use Rattle.kumir_values.specs.declared.value.Value.{Value}
 use Rattle.margins.specs.declared.margin.Mark.{Mark}
 use Rattle.text_versions.specs.declared.edit.Edit.{Edit}
@@ -12,28 +11,13 @@ use Rattle.script_lines.specs.declared.request.Request.{Request}
 use Rattle.transcript.specs.declared.entry.Entry.{Entry}
 use Rattle.transcript.specs.declared.entry.Entry.TheVariants as entry
 use Rattle.transcript.specs.Print.{print}
-use Rattle.incr_analysis.specs.Full.{AreUnits, Full, knows_performer}
+use Rattle.transcript.specs.Entries.{IsShown}
+use Rattle.incr_analysis.specs.Full.{Full}
 use Rattle.km_ports.specs.Ports.{SinkState, PutsInto}
-use Rattle.script_lines.specs.Answer.{accepted, newest, AnswersAsk}
+use Rattle.script_lines.specs.Answer.{accepted, Answer}
+use Rattle.robot_field.specs.Board.{Board}
+use Rattle.plain_run.specs.Fields.{IsFieldBehind}
 use Rattle.plain_run.specs.RunEntries.{IsRunOf}
-
--- ---- answers
-
--- a run of a version that makes a performer known is not carried out yet, and any other is answered by the rule
-abbrev pub AnswersRun : Bool → List Request → List Entry → ℕ → Ask → Entry → Type 0
-AnswersRun true earlier before line a e = e ≡ entry.Bad line
-AnswersRun false earlier before line a e = AnswersAsk earlier before line a e
-
--- the entry answers what the request at that line asks for; fields are not carried out yet
-abbrev pub AnswersYet : List Request → List Entry → ℕ → Ask → Entry → Type 0
-AnswersYet earlier before line (ask.Edit edit) e = AnswersAsk earlier before line (ask.Edit edit) e
-AnswersYet earlier before line (ask.Field lines) e = e ≡ entry.Bad line
-AnswersYet earlier before line (ask.Run inputs) e =
-    (units : List (ℕ × Known)) × AreUnits (version (accepted earlier) (newest before)) units
-    × AnswersRun (knows_performer units) earlier before line (ask.Run inputs) e
-AnswersYet earlier before line ask.Stop e = AnswersAsk earlier before line ask.Stop e
-AnswersYet earlier before line ask.Wait e = AnswersAsk earlier before line ask.Wait e
-AnswersYet earlier before line ask.Bad e = AnswersAsk earlier before line ask.Bad e
 
 -- ---- what stands behind them
 
@@ -46,12 +30,13 @@ abbrev pub inputs_of : Ask → List Value
 inputs_of (ask.Run inputs) = inputs
 inputs_of _ = []
 
--- What stands directly behind an answer, where these edits are accepted and the request gives these inputs: behind
--- `edit V` the margin of version V, behind `run R V` the entries of that run of version V, and behind any other nothing.
-abbrev pub StandsBehind : ℕ → List Edit → List Value → Entry → List Entry → Type 0
-StandsBehind budget edits inputs (entry.Edit v) behind = (margin : Entry) × IsMarginOf edits v margin × (behind ≡ margin ∷ [])
-StandsBehind budget edits inputs (entry.Run r v) behind = IsRunOf budget r inputs (version edits v) behind
-StandsBehind budget edits inputs answer behind = behind ≡ []
+-- What stands directly behind an answer to this, where these requests are answered: behind `edit V` the margin of
+-- version V, behind `run R V` the entries of that run of version V, and behind any other nothing.
+abbrev pub StandsBehind : ℕ → List Request → Ask → Entry → List Entry → Type 0
+StandsBehind budget requests a (entry.Edit v) behind = (margin : Entry) × IsMarginOf (accepted requests) v margin × (behind ≡ margin ∷ [])
+StandsBehind budget requests a (entry.Run r v) behind =
+    (field : Board) × IsFieldBehind requests field × IsRunOf budget r (inputs_of a) field (version (accepted requests) v) behind
+StandsBehind budget requests a answer behind = behind ≡ []
 
 -- ---- transcripts
 
@@ -61,8 +46,8 @@ unfoldable pub AreAnswers : ℕ → List Request → List Entry → List Request
 AreAnswers budget earlier before [] entries = entries ≡ []
 AreAnswers budget earlier before (request ∷ requests) entries =
     (answer : Entry) × (behind : List Entry) × (rest : List Entry)
-    × AnswersYet earlier before request.line request.ask answer
-    × StandsBehind budget (accepted (earlier ++ request ∷ [])) (inputs_of request.ask) answer behind
+    × Answer earlier before request answer
+    × StandsBehind budget (earlier ++ request ∷ []) request.ask answer behind
     × AreAnswers budget (earlier ++ request ∷ []) (before ++ answer ∷ behind) requests rest
     × (entries ≡ answer ∷ behind ++ rest)
 
@@ -76,6 +61,11 @@ IsPlainOpen budget requests entries =
 abbrev pub IsPlain : ℕ → List Request → List Entry → Type 0
 IsPlain budget requests entries = (answered : List Entry) × IsPlainOpen budget requests answered × (entries ≡ answered ++ entry.Bye ∷ [])
 
+-- these entries were printed, and each is one that a transcript can show
+pub record Shows (entries : List Entry) (before now : SinkState) : Type 0 where
+  pub put : PutsInto before now (print entries)
+  pub shown : All IsShown entries
+
 -- entries that are such were printed
 abbrev pub PutsEntries : (List Entry → Type 0) → SinkState → SinkState → Type 0
-PutsEntries Are before now = (entries : List Entry) × Are entries × PutsInto before now (print entries)
+PutsEntries Are before now = (entries : List Entry) × Are entries × Shows entries before now

@@ -6,6 +6,7 @@ mod check;
 mod ending;
 mod laws;
 mod lines;
+mod performing;
 mod plain;
 mod put;
 mod run;

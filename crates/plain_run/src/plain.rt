@@ -1,18 +1,18 @@
 //! Requests carried out one after the other.
 
-ghost use Rattle.std.specs.Prelude.{List, ◌≡◌, ◌<◌, ◌+◌, ◌∷◌, [], false, length, Result, Ok, Err, IfOk, OnOk, reverse};
+ghost use Rattle.std.specs.Prelude.{ℕ, List, ◌≡◌, ◌<◌, ◌+◌, ◌∷◌, [], false, length, Result, Ok, Err, IfOk, OnOk, reverse};
 ghost use Rattle.text_versions.specs.declared.versions.ApplyRefusal.TheVariants as refusal;
 ghost use Rattle.text_versions.specs.Edits.{answer_to};
 ghost use Rattle.text_versions.specs.Texts.{text_limits};
 ghost use Rattle.script_lines.specs.declared.request.Ask.{Ask};
-ghost use Rattle.type_check.specs.Placed.{units_in};
-ghost use Rattle.incr_analysis.specs.Full.{knows_performer};
+ghost use Rattle.robot_field.specs.FieldText.{IsFieldText, IsFirstBad};
+ghost use Rattle.robot_field.specs.declared.field.FieldRefusal.TheVariants as FieldRefusal;
 ghost use Rattle.transcript.specs.Print.{IsPrintable};
 ghost use Rattle.plain_run.specs.Ending.{StopsPut};
 ghost use Rattle.plain_run.specs.Kept.{Kept};
 ghost use Rattle.plain_run.specs.Sessions.{kept_in, IsSession};
 ghost use Rattle.plain_run.specs.Plain.{PutsEntries};
-ghost use Rattle.plain_run.specs.Carried.{IsNewestMargin, Alone, SaysEdit, TakesRun, SaysRun, Answers, Carries};
+ghost use Rattle.plain_run.specs.Carried.{IsNewestMargin, Alone, SaysEdit, SaysRun, SaysField, Answers, Carries};
 
 use crate::analysis::analysis_of;
 use crate::put::put_entry;
@@ -20,7 +20,9 @@ use crate::run::put_run;
 use crate::session::Session;
 use km_base::Memory;
 use km_ports::{Sink, Status};
+use kumir_tree::Lines;
 use kumir_values::Values;
+use robot_field::{Field, FieldRefusal};
 use script_lines::{Ask, Request, Requests};
 use sqlite_items::Items;
 use std::alloc::{AllocError, Global};
@@ -99,11 +101,9 @@ fn put_next_run<O: Sink>(
     output: &mut O,
 ) -> Result<(), Status>
     requires session { IsSession session.old }
-    requires alone { knows_performer (units_in session.old.analysed.units) ≡ false }
     requires few { session.old.runs.count < 4294967295 }
     ensures whole { OnOk result (PutsEntries
-        (λ entries. TakesRun (kept_in session.old) (units_in session.old.analysed.units)
-        inputs entries (kept_in session.new))
+        (λ entries. SaysRun (kept_in session.old) inputs entries (kept_in session.new))
         (O.state output.old) (O.state output.new)) }
     ensures session { OnOk result (IsSession session.new) }
     ensures cause { StopsPut (O.state output.old) (O.state output.new) result }
@@ -118,31 +118,44 @@ fn put_next_run<O: Sink>(
         &session.analysed,
         &mut session.runs,
         inputs,
+        &session.field,
         session.budget,
         output,
     )
 }
 
-// Puts the answer to a run. One whose version makes a performer known is not carried out yet.
-fn put_asked_run<O: Sink>(
+// The field that lines are. More lines than 32 bits count are answered as want of memory.
+fn read_field(alloc: Global, lines: &Lines) -> Result<Field, FieldRefusal>
+    ensures field { IfOk result (λ field. IsFieldText lines.now field) }
+    ensures bad { (n : ℕ) → result ≡ Err (FieldRefusal.BadField n) → IsFirstBad lines.now n }
+{
+    if lines.len() >= u32::MAX as usize {
+        return Err(FieldRefusal::Memory);
+    }
+    Field::read(alloc, lines.as_slice())
+}
+
+// Puts the answer to a field. Lines that are one are the field of the runs that follow.
+fn put_field<O: Sink>(
     alloc: Global,
     session: &mut Session,
-    line: u32,
-    inputs: Values,
+    lines: Lines,
     output: &mut O,
 ) -> Result<(), Status>
     requires session { IsSession session.old }
-    requires few { session.old.runs.count < 4294967295 }
     ensures whole { OnOk result (PutsEntries
-        (λ entries. SaysRun line (kept_in session.old) inputs entries (kept_in session.new))
+        (λ entries. SaysField (kept_in session.old) lines entries (kept_in session.new))
         (O.state output.old) (O.state output.new)) }
     ensures session { OnOk result (IsSession session.new) }
     ensures cause { StopsPut (O.state output.old) (O.state output.new) result }
 {
-    if session.analysed.knows_performer() {
-        put_entry(alloc, Entry::Bad { line }, output)
-    } else {
-        put_next_run(alloc, session, inputs, output)
+    match read_field(alloc, &lines) {
+        Ok(field) => {
+            session.field = field;
+            put_entry(alloc, Entry::FieldOk, output)
+        }
+        Err(FieldRefusal::BadField { line }) => put_entry(alloc, Entry::FieldBad { line }, output),
+        Err(FieldRefusal::Memory) => Err(Status::Memory),
     }
 }
 
@@ -164,8 +177,8 @@ pub fn put_answer<O: Sink>(
     let Request { line, ask } = request;
     match ask {
         Ask::Edit(edit) => put_edit(alloc, session, edit, output),
-        Ask::Field(_) => put_entry(alloc, Entry::Bad { line }, output),
-        Ask::Run(inputs) => put_asked_run(alloc, session, line, inputs, output),
+        Ask::Field(lines) => put_field(alloc, session, lines, output),
+        Ask::Run(inputs) => put_next_run(alloc, session, inputs, output),
         Ask::Stop => put_entry(alloc, Entry::StopIdle, output),
         Ask::Wait => put_entry(alloc, Entry::Waited, output),
         Ask::Bad => put_entry(alloc, Entry::Bad { line }, output),

@@ -1,9 +1,10 @@
 //! Entries put into a sink.
 
-ghost use Rattle.std.specs.Prelude.{OnOk};
-ghost use Rattle.transcript.specs.Print.{IsPrintable, printed_entry};
+ghost use Rattle.std.specs.Prelude.{OnOk, [], ◌∷◌};
+ghost use Rattle.transcript.specs.Print.{IsPrintable};
 ghost use Rattle.km_ports.specs.Ports.{PutsInto};
 ghost use Rattle.plain_run.specs.Ending.{StopsPut};
+ghost use Rattle.plain_run.specs.Plain.{Shows};
 
 use km_ports::{Sink, Status, put_all};
 use std::alloc::Global;
@@ -21,7 +22,7 @@ fn put_text<O: Sink>(text: &str, output: &mut O) -> Result<(), Status>
 /// Puts one entry into the sink, a line with its end.
 pub fn put_entry<O: Sink>(alloc: Global, entry: Entry, output: &mut O) -> Result<(), Status>
     requires { IsPrintable entry }
-    ensures whole { OnOk result (PutsInto (O.state output.old) (O.state output.new) (printed_entry entry)) }
+    ensures whole { OnOk result (Shows (entry ∷ []) (O.state output.old) (O.state output.new)) }
     ensures cause { StopsPut (O.state output.old) (O.state output.new) result }
 {
     let text = print_entry(alloc, &entry)?;

@@ -8,13 +8,15 @@ ghost use Rattle.type_check.specs.Margin.{program_faults};
 ghost use Rattle.type_check.specs.Placed.{units_in};
 ghost use Rattle.transcript.specs.declared.entry.Entry.{Entry};
 ghost use Rattle.kumir_tree.specs.Sound.{IsSound};
-ghost use Rattle.incr_analysis.specs.Full.{has_main, knows_performer};
+ghost use Rattle.incr_analysis.specs.Full.{has_main};
+ghost use Rattle.kumir_meaning.specs.Program as meaning;
 ghost use Rattle.plain_run.specs.Courses.{IsAtBegin};
 ghost use Rattle.plain_run.specs.Ending.{StopsPut};
 ghost use Rattle.plain_run.specs.Runnable.{IsRunnable};
-ghost use Rattle.plain_run.specs.RunEntries.{trace_of, trace_entries, run_entries};
+ghost use Rattle.plain_run.specs.RunEntries.{IsTraceOf, IsRunOfUnits, IsRunOf};
 ghost use Rattle.plain_run.specs.Plain.{PutsEntries};
 
+use crate::performing::Performing;
 use crate::put::put_entry;
 use incr_analysis::Analysed;
 use km_base::Memory;
@@ -22,6 +24,7 @@ use km_ports::{Sink, Status};
 use kumir_compiler::compile;
 use kumir_machine::{Advanced, Machine};
 use kumir_values::Values;
+use robot_field::Field;
 use run_control::{BeginRefusal, Runs};
 use std::alloc::Global;
 use std::sync::Arc;
@@ -40,17 +43,18 @@ fn machine_of(
 ) -> Result<Machine, Memory>
     requires runnable { IsRunnable (units_in program.now) }
     requires allowed { budget ≤ most_steps }
-    ensures { IfOk result (λ machine. IsAtBegin (trace_of budget inputs (units_in program.now)) budget machine) }
+    ensures { IfOk result (λ machine. IsAtBegin (meaning.program_of (units_in program.now)) inputs budget machine) }
 {
     let code = compile(alloc, program)?;
     Machine::new(alloc, Arc::new(alloc, code)?, inputs, budget)
 }
 
-// Runs a program, and puts each output when it comes, and then the end.
+// Runs a program with performers on a copy of this field, puts each output and each report when it comes, and then the end.
 fn put_trace<O: Sink>(
     alloc: Global,
     program: &Clean,
     inputs: Values,
+    field: &Field,
     budget: u32,
     run: u32,
     output: &mut O,
@@ -58,18 +62,24 @@ fn put_trace<O: Sink>(
     requires runnable { IsRunnable (units_in program.now) }
     requires allowed { budget ≤ most_steps }
     ensures whole { OnOk result (PutsEntries
-        (λ entries. entries ≡ trace_entries run (trace_of budget inputs (units_in program.now)))
+        (IsTraceOf budget run inputs field.now (meaning.program_of (units_in program.now)))
         (O.state output.old) (O.state output.new)) }
     ensures cause { StopsPut (O.state output.old) (O.state output.new) result }
 {
     let mut machine = machine_of(alloc, program, inputs, budget)?;
+    let mut performing = Performing::new(field.copy(alloc)?);
     loop {
         match machine.advance(alloc, STEPS_AT_ONCE) {
             Advanced::Out(text) => put_entry(alloc, Entry::Out { run, text }, output)?,
+            Advanced::Command(command) => {
+                let (reply, report) = performing.carry_out(run, command);
+                machine.give(reply);
+                put_entry(alloc, report, output)?;
+            }
             Advanced::Paused => {}
             Advanced::Ended(end) => return put_entry(alloc, Entry::End { run, end }, output),
             Advanced::Memory => return Err(Status::Memory),
-            Advanced::Command(_) | Advanced::AwaitReply => unreachable!(),
+            Advanced::AwaitReply => unreachable!(),
         }
     }
 }
@@ -87,11 +97,12 @@ fn program_of(alloc: Global, analysed: &Analysed) -> Result<Clean, Memory>
     }
 }
 
-// Puts what the run of a version does, and how it ends.
+// Puts what the run of a version does on this field, and how it ends.
 fn put_active<O: Sink>(
     alloc: Global,
     analysed: &Analysed,
     inputs: Values,
+    field: &Field,
     budget: u32,
     run: u32,
     output: &mut O,
@@ -99,31 +110,31 @@ fn put_active<O: Sink>(
     requires unmarked { analysed.now.margin ≡ [] }
     requires faultless { program_faults (units_in analysed.now.units) ≡ [] }
     requires main { has_main (units_in analysed.now.units) ≡ true }
-    requires alone { knows_performer (units_in analysed.now.units) ≡ false }
     requires allowed { budget ≤ most_steps }
     ensures whole { OnOk result (PutsEntries
-        (λ entries. entries ≡ run_entries budget run inputs (units_in analysed.now.units))
+        (IsRunOfUnits budget run inputs field.now (units_in analysed.now.units))
         (O.state output.old) (O.state output.new)) }
     ensures cause { StopsPut (O.state output.old) (O.state output.new) result }
 {
     let program = program_of(alloc, analysed)?;
-    put_trace(alloc, &program, inputs, budget, run, output)
+    put_trace(alloc, &program, inputs, field, budget, run, output)
 }
 
-/// Puts the entries of the pinned run of a version: its refusal, or its outputs and its end. The run is over then.
+/// Puts the entries of the pinned run of a version on this field: its refusal, or its outputs, its reports and its end.
+/// The run is over then, and the field is as it was.
 pub fn put_run<O: Sink>(
     alloc: Global,
     analysed: &Analysed,
     runs: &mut Runs,
     inputs: Values,
+    field: &Field,
     budget: u32,
     output: &mut O,
 ) -> Result<(), Status>
     requires pinned { IsPinned runs.old.stage }
-    requires alone { knows_performer (units_in analysed.now.units) ≡ false }
     requires allowed { budget ≤ most_steps }
     ensures whole { OnOk result (PutsEntries
-        (λ entries. entries ≡ run_entries budget runs.old.count inputs (units_in analysed.now.units))
+        (IsRunOf budget runs.old.count inputs field.now analysed.now.text)
         (O.state output.old) (O.state output.new)) }
     ensures over { OnOk result (runs.new ≡ record { count = runs.old.count; stage = NoRun }) }
     ensures cause { StopsPut (O.state output.old) (O.state output.new) result }
@@ -133,7 +144,7 @@ pub fn put_run<O: Sink>(
     let has_main = fault_free && analysed.has_main();
     match runs.begin(fault_free, has_main) {
         Ok(_) => {
-            put_active(alloc, analysed, inputs, budget, run, output)?;
+            put_active(alloc, analysed, inputs, field, budget, run, output)?;
             runs.end();
             Ok(())
         }

@@ -8,16 +8,18 @@ ghost use Rattle.plain_run.specs.Sessions.{kept_in, IsSession};
 use crate::analysis::analysis_of;
 use incr_analysis::Analysed;
 use km_base::Memory;
+use robot_field::Field;
 use run_control::Runs;
 use std::alloc::Global;
 use text_versions::Versions;
 
-/// The versions of the text, the analysis of the newest, and the runs so far.
+/// The versions of the text, the analysis of the newest, the runs so far, and the field of the next run.
 #[derive(Drop)]
 pub struct Session {
     pub versions: Versions,
     pub analysed: Analysed,
     pub runs: Runs,
+    pub field: Field,
     /// How many steps a run may take.
     pub budget: u32,
 }
@@ -34,6 +36,7 @@ pub fn new_session(alloc: Global, budget: u32) -> Result<Session, Memory>
         versions,
         analysed,
         runs: Runs::new(),
+        field: Field::usual(alloc)?,
         budget,
     })
 }

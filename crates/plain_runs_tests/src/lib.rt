@@ -6,11 +6,15 @@ mod calls;
 #[cfg(test)]
 mod faults;
 #[cfg(test)]
+mod fields;
+#[cfg(test)]
 mod limits;
 #[cfg(test)]
 mod loops;
 #[cfg(test)]
 mod outputs;
+#[cfg(test)]
+mod performers;
 #[cfg(test)]
 mod row;
 #[cfg(test)]

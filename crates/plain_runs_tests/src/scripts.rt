@@ -18,7 +18,7 @@ const REQUESTS: [(&str, &str, &str); 3] = [
     (
         "алг\nнач\nвывод 1\nкон",
         "edit 1 0 1\nиспользовать Робот\nrun\nedit 1 1 0\nrun\n",
-        "edit 2\nmargin 2\nbad 8\nedit 3\nmargin 3\nrun 1 3\nout 1 1\nend 1 done\n",
+        "edit 2\nmargin 2\nrun 1 2\nout 1 1\nend 1 done\nedit 3\nmargin 3\nrun 2 3\nout 2 1\nend 2 done\n",
     ),
 ];
 
@@ -28,24 +28,28 @@ fn runs_are_of_the_newest_version(rt: HostRuntime) -> Result<(), Fail> {
 }
 
 // Scripts with their transcripts and the status.
-const SCRIPTS: [(&str, &str); 4] = [
+const SCRIPTS: [(&str, &str); 5] = [
+    (
+        "field 1\n3 1 1 1\nedit 1 0 9\nиспользовать Робот\nалг\nнач\nнц пока справа свободно\nзакрасить\nвправо\nкц\nвправо\nкон\nrun",
+        "margin 0\nfield ok\nedit 1\nmargin 1\nrun 1 1\nrobot 1 1 справа_свободно да\nrobot 1 2 закрасить done\nrobot 1 3 вправо done\nrobot 1 4 справа_свободно да\nrobot 1 5 закрасить done\nrobot 1 6 вправо done\nrobot 1 7 справа_свободно нет\nrobot 1 8 вправо wall\nend 1 wall 8\nbye\n0",
+    ),
     ("run", "margin 0\nrun 1 0\nrefused 1 main\nbye\n0"),
     (
         "edit 1 0 1\nвсе\nrun\n",
         "margin 0\nedit 1\nmargin 1 1:301\nrun 1 1\nrefused 1 faults\nbye\n0",
     ),
     (
-        "edit 1 0 5\nиспользовать Робот\nалг\nнач\nвправо\nкон\nrun\nwait\n",
-        "margin 0\nedit 1\nmargin 1\nbad 7\nwaited\nbye\n0",
+        "edit 1 0 5\nиспользовать Робот\nалг\nнач\nвниз\nкон\nrun\nwait\n",
+        "margin 0\nedit 1\nmargin 1\nrun 1 1\nrobot 1 1 вниз done\nend 1 done\nwaited\nbye\n0",
     ),
     (
         "edit 1 0 1\nиспользовать Чертежник\nrun 1\n",
-        "margin 0\nedit 1\nmargin 1\nbad 3\nbye\n0",
+        "margin 0\nedit 1\nmargin 1\nrun 1 1\nrefused 1 main\nbye\n0",
     ),
 ];
 
 #[test]
-fn runs_are_refused(rt: HostRuntime) -> Result<(), Fail> {
+fn scripts_are_answered(rt: HostRuntime) -> Result<(), Fail> {
     for (script, wanted) in SCRIPTS {
         let told = transcript(rt.alloc(), "plain", script)?;
         assert_eq!(rt; told.as_str(), wanted, "at {script}");

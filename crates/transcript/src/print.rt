@@ -7,8 +7,10 @@ ghost use Rattle.kumir_values.specs.declared.run_end.EndKind.{EndKind};
 ghost use Rattle.performer_kit.specs.Commands.{printed_command};
 ghost use Rattle.margins.specs.Printed.{printed_margin};
 ghost use Rattle.transcript.specs.Print.{escaped_char, escaped, fault_word, end_text, reply_text, entry_line, printed_entry, IsPrintable};
+ghost use Rattle.transcript.specs.Entries.{IsShown};
 
 use crate::entry::Entry;
+use crate::ranges::in_range;
 use km_base::Memory;
 use kumir_values::{EndKind, RunFault};
 use margins::{Margin, print_margin};
@@ -188,8 +190,10 @@ pub fn push_line(alloc: Global, out: &mut String, entry: &Entry) -> Result<(), M
 /// want of memory, and its reply is one that its performer can have.
 pub fn print_entry(alloc: Global, entry: &Entry) -> Result<String, Memory>
     requires { IsPrintable entry.now }
-    ensures { IfOk result (λ text. string_bytes text ≡ printed_entry entry.now) }
+    ensures printed { IfOk result (λ text. string_bytes text ≡ printed_entry entry.now) }
+    ensures shown { OnOk result (IsShown entry.now) }
 {
+    in_range(entry);
     let mut out = String::new(alloc);
     push_line(alloc, &mut out, entry)?;
     out.push_str("\n")?;

@@ -1,6 +1,4 @@
-use Rattle.std.proofs.Common.{refl, ◌∙◌, ◌+◌, [], ◌∷◌, ◌++◌, length, sym, ap, arith}
-use Rattle.std.specs.Prelude.{reverse}
-use Rattle.std.proofs.lemmas.List.{length-append}
+use Rattle.std.proofs.Common.{refl, ◌∙◌, [], ◌∷◌, ◌++◌}
 use Rattle.plain_run.specs.Sessions.{kept_in}
 use Rattle.plain_run.proofs.Carried.{puts_nothing, puts_next, next_waiting, still_few}
 use Rattle.plain_run.proofs.plain.put_answers.Goals as goal

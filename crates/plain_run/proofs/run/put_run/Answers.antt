@@ -4,7 +4,7 @@ use Rattle.std.proofs.lemmas.Result.{on_ok_weaker}
 use Rattle.type_check.specs.Margin.{program_faults}
 use Rattle.type_check.specs.Placed.{units_in}
 use Rattle.incr_analysis.specs.Full.{has_main}
-use Rattle.plain_run.proofs.RunsBegin.{begins_faultless, puts_faults, puts_main}
+use Rattle.plain_run.proofs.RunsBegin.{begins_faultless, puts_faults, puts_main, puts_of_text}
 use Rattle.plain_run.proofs.run.put_run.Goals as goal
 use Rattle.plain_run.proofs.run.put_run.Goals.{then-fault_free, else-fault_free}
 
@@ -15,8 +15,8 @@ put_active-requires-clause-faultless g c =
 pub returns-in-Err-Faults-clause-whole : goal.returns-in-Err-Faults-clause-whole
 returns-in-Err-Faults-clause-whole g c =
     on_ok_weaker c.put_entry.result
-    (λ p. puts_faults c.is_empty-fault_free.result c.if-fault_free.has_main _ c.args.budget c.args.runs.now.count c.count-run.result c.args.inputs (units_in c.args.analysed.now.units) c.marks.result.now c.margin.result.now (g.O.Sink.state c.args.output.now) (g.O.Sink.state c.put_entry.new.output)
-    (sym c.begin.ensures.answer ∙ c.in-Err-Faults.is ∙ ap Err c.in-Err-Faults.field-0-is) c.marks.ensures.shown c.is_empty-fault_free.ensures c.margin.ensures.analysis.marked c.count-run.ensures p) c.put_entry.ensures.whole
+    (λ p. puts_of_text c.args.budget c.args.runs.now.count c.args.inputs c.args.field.now c.args.analysed.now.text (units_in c.args.analysed.now.units) (g.O.Sink.state c.args.output.now) (g.O.Sink.state c.put_entry.new.output) c.margin.ensures.analysis.are_units (puts_faults c.is_empty-fault_free.result c.if-fault_free.has_main _ c.args.budget c.args.runs.now.count c.count-run.result c.args.inputs c.args.field.now (units_in c.args.analysed.now.units) c.marks.result.now c.margin.result.now (g.O.Sink.state c.args.output.now) (g.O.Sink.state c.put_entry.new.output)
+    (sym c.begin.ensures.answer ∙ c.in-Err-Faults.is ∙ ap Err c.in-Err-Faults.field-0-is) c.marks.ensures.shown c.is_empty-fault_free.ensures c.margin.ensures.analysis.marked c.count-run.ensures p)) c.put_entry.ensures.whole
 
 pub returns-clause-whole : goal.returns-clause-whole
 returns-clause-whole g c =
@@ -26,5 +26,5 @@ returns-clause-whole g c =
       | else-fault_free w ↦ absurd (true≢false (sym free ∙ w.if-fault_free.false))
     ] in
     on_ok_weaker c.put_entry-in-Err-NoMain.result
-    (λ p. puts_main c.is_empty-fault_free.result c.if-fault_free.has_main _ c.args.budget c.args.runs.now.count c.count-run.result c.args.inputs (units_in c.args.analysed.now.units) c.marks.result.now c.margin.result.now (g.O.Sink.state c.args.output.now) (g.O.Sink.state c.put_entry-in-Err-NoMain.new.output)
-    (sym c.begin.ensures.answer ∙ c.in-Err-NoMain.is ∙ ap Err c.in-Err-NoMain.field-0-is) tells c.marks.ensures.shown c.is_empty-fault_free.ensures c.margin.ensures.analysis.marked c.count-run.ensures p) c.put_entry-in-Err-NoMain.ensures.whole
+    (λ p. puts_of_text c.args.budget c.args.runs.now.count c.args.inputs c.args.field.now c.args.analysed.now.text (units_in c.args.analysed.now.units) (g.O.Sink.state c.args.output.now) (g.O.Sink.state c.put_entry-in-Err-NoMain.new.output) c.margin.ensures.analysis.are_units (puts_main c.is_empty-fault_free.result c.if-fault_free.has_main _ c.args.budget c.args.runs.now.count c.count-run.result c.args.inputs c.args.field.now (units_in c.args.analysed.now.units) c.marks.result.now c.margin.result.now (g.O.Sink.state c.args.output.now) (g.O.Sink.state c.put_entry-in-Err-NoMain.new.output)
+    (sym c.begin.ensures.answer ∙ c.in-Err-NoMain.is ∙ ap Err c.in-Err-NoMain.field-0-is) tells c.marks.ensures.shown c.is_empty-fault_free.ensures c.margin.ensures.analysis.marked c.count-run.ensures p)) c.put_entry-in-Err-NoMain.ensures.whole
