@@ -1,0 +1,5 @@
+//! Tests of samples and their summaries.
+#![tactic(auto)]
+
+#[cfg(test)]
+mod tests;
