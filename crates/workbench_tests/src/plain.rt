@@ -116,3 +116,14 @@ fn a_transcript_that_is_not_written_is_a_write_fault(rt: HostRuntime) -> Result<
     assert_eq!(rt; sink.written(), "marg".as_bytes());
     Ok(())
 }
+
+#[test]
+fn a_sample_is_summed_up(rt: HostRuntime) -> Result<(), Fail> {
+    let (status, text) = answer(rt.alloc(), "sample 0", b"")?;
+    assert_eq!(rt; status.number(), 0);
+    assert_eq!(rt;
+        text.as_str(),
+        "sample 0\nalgorithms 21\nversions 21\nfaults 0\nout 212\n"
+    );
+    Ok(())
+}

@@ -1,0 +1,4 @@
+pub mod Levels
+pub mod Listed
+pub mod Readings
+pub mod Subcommands
