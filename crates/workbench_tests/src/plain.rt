@@ -22,7 +22,7 @@ const SCRIPTS: [(&str, &str); 14] = [
     ),
     (
         "run\nfield 1\n3 1 4 1\nwait",
-        "margin 0\nrun 1 0\nrefused 1 main\nbad 2\nwaited\nbye\n",
+        "margin 0\nrun 1 0\nrefused 1 main\nfield bad 1\nwaited\nbye\n",
     ),
     (
         "edit 0 0 0\nedit 2 0 0\nedit 1 1 0\n",
