@@ -1,0 +1,2 @@
+pub mod EndsCross
+pub mod GivenMore

@@ -1,0 +1,5 @@
+pub mod ActorsCross
+mod PenEvents
+mod RobotEvents
+mod RunsTold
+mod Tellings

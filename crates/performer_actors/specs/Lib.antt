@@ -1,0 +1,10 @@
+pub mod Laws
+pub mod PenDue
+pub mod PenInside
+pub mod PenLaw
+pub mod Performing
+pub mod RobotDue
+pub mod RobotInside
+pub mod RobotLaw
+pub mod Sends
+pub mod Telling
