@@ -3,9 +3,7 @@ use Rattle.std.specs.Prelude.{ℕ, ◌+◌, ◌-◌, ◌&&◌, Bool, if◌then�
 use Rattle.text_versions.specs.declared.limits.Limits.{Limits}
 use Rattle.text_versions.specs.declared.edit.Edit.{Edit}
 use Rattle.text_versions.specs.declared.versions.ApplyRefusal.{ApplyRefusal}
-use Rattle.text_versions.specs.declared.versions.ApplyRefusal.TheVariants.{Range, TooLong, TooMany, Memory}
-use Rattle.text_versions.specs.declared.text.TextRefusal.{TextRefusal}
-use Rattle.text_versions.specs.declared.text.TextRefusal.TheVariants as text
+use Rattle.text_versions.specs.declared.versions.ApplyRefusal.TheVariants.{Range, TooLong, TooMany}
 use Rattle.text_versions.specs.Texts.{is_within}
 
 -- the lines that the edit replaces are lines of the text
@@ -33,7 +31,11 @@ answer_to limits edits e =
     else Err TooLong)
     else Err Range
 
--- the refusal of an edit whose text is refused
-abbrev pub refused_for : TextRefusal → ApplyRefusal
-refused_for text.TooLong = TooLong
-refused_for text.Memory = Memory
+-- what comes of an edit of the text of version `newest`: the first refusal that has its cause, or the new text
+abbrev pub outcome_of : Limits → List (List ℕ) → ℕ → Edit → Result (List (List ℕ)) ApplyRefusal
+outcome_of limits text newest e =
+    if is_in_range text e
+    then (if is_within limits (edited text e)
+    then (if nat_le limits.versions newest then Err TooMany else Ok (edited text e))
+    else Err TooLong)
+    else Err Range

@@ -1,3 +1,9 @@
 pub mod Texts
+pub mod Chunks
+pub mod ChunkLists
+pub mod Cuts
 pub mod Edits
+pub mod Patches
+pub mod Applied
+pub mod Changes
 pub mod Versions

@@ -1,8 +1,8 @@
 //! The limits of a text and of its versions.
-ghost use Rattle.std.specs.Prelude.{◌≡◌, ◌+◌, ◌<◌, nat_le, sum_by, take, length};
+ghost use Rattle.std.specs.Prelude.{◌≡◌, ◌+◌, ◌<◌, ◌*◌, ◌≤◌, ◌^◌, nat_le, sum_by, take, length};
 ghost use Rattle.std.specs.List.{list_all};
 ghost use Rattle.std.specs.Str.{encode_utf8_all};
-ghost use Rattle.text_versions.specs.Texts.{byte_count, is_within};
+ghost use Rattle.text_versions.specs.Texts.{ended_bytes, are_short, is_within, limits_of};
 
 use km_base::limits::{LINE_CHARACTERS, NEWEST_VERSION, TEXT_BYTES, TEXT_LINES};
 use kumir_tree::Line;
@@ -28,41 +28,56 @@ pub const TEXT_LIMITS: Limits = Limits {
     versions: NEWEST_VERSION,
 };
 
-/// Whether the lines have at most that many bytes, with one byte counted between each two of them.
-fn has_bytes_within(lines: &[Line], most: u32) -> bool
-    ensures { result ≡ nat_le (byte_count lines.now) most }
+/// The limits of the texts of a session whose script is of version 2.
+pub const SECOND_LIMITS: Limits = Limits {
+    bytes: 1_048_576,
+    lines: 32_768,
+    characters: 1_024,
+    versions: 400_000,
+};
+
+/// The limits of the texts of a session: of one whose script is of version 2 where `second`, else of version 1.
+pub fn limits_of(second: bool) -> Limits
+    ensures limits { result ≡ limits_of second }
+    ensures fewer_lines { result.lines < 4294967295 }
+    ensures fewer_bytes { result.bytes < 4294967295 }
 {
-    let mut left = u64::from(most) + 1;
-    for line in lines {
-        let bytes = line.as_str().len() as u64;
-        if bytes >= left {
-            return false;
-        }
-        left -= bytes + 1;
-    }
-    true
+    if second { SECOND_LIMITS } else { TEXT_LIMITS }
 }
 
-fn character_count(line: &Line) -> usize
+/// The bytes of the lines, and one byte for the end of each.
+pub(crate) fn ended_bytes(lines: &[Line]) -> u128
+    ensures bytes { result ≡ ended_bytes lines.now }
+    ensures bound { result < 2 ^ 127 }
+{
+    let mut bytes = 0;
+    for line in lines {
+        bytes += line.as_str().len() as u128 + 1;
+    }
+    bytes
+}
+
+/// How many characters the line has.
+pub(crate) fn character_count(line: &Line) -> usize
     ensures { result ≡ length line.now }
 {
     line.as_str().chars().count()
 }
 
-/// Whether each line has at most that many characters.
-fn has_characters_within(lines: &[Line], most: u32) -> bool
-    ensures { result ≡ list_all (λ l. nat_le (length l) most) lines.now }
+/// Whether no line has more characters.
+pub(crate) fn are_short(characters: u32, lines: &[Line]) -> bool
+    ensures { result ≡ are_short characters lines.now }
 {
     lines
         .iter()
-        .all(|line| character_count(line) <= most as usize)
+        .all(|line| character_count(line) <= characters as usize)
 }
 
 /// Whether no limit of a text is passed by the lines.
 pub fn is_within(lines: &[Line], limits: Limits) -> bool
     ensures { result ≡ is_within limits lines.now }
 {
-    has_bytes_within(lines, limits.bytes)
+    ended_bytes(lines).saturating_sub(1) <= u128::from(limits.bytes)
         && lines.len() <= limits.lines as usize
-        && has_characters_within(lines, limits.characters)
+        && are_short(limits.characters, lines)
 }

@@ -1,14 +1,16 @@
 //! The versions of a text.
-ghost use Rattle.std.specs.Prelude.{◌≡◌, ◌+◌, ◌<◌, true, [], ◌∷◌, ◌++◌, length, take, drop, IfOk, OnOk, OnErr};
+ghost use Rattle.std.specs.Prelude.{◌≡◌, ◌+◌, ◌/◌, ◌<◌, ◌≤◌, [], ◌∷◌, ◌++◌, length, IfOk, OnOk, OnErr};
 ghost use Rattle.std.specs.Arc.{arc_value};
-ghost use Rattle.text_versions.specs.Texts.{IsText, IsUnless, is_within, text_limits};
-ghost use Rattle.text_versions.specs.Edits.{is_in_range, edited, text_after, version, answer_to};
+ghost use Rattle.text_versions.specs.Texts.{IsUnless, text_limits};
+ghost use Rattle.text_versions.specs.Edits.{text_after, answer_to};
+ghost use Rattle.text_versions.specs.Changes.{edit_of_change, answer_to_change};
 
+use crate::change::{changed_line, line_edit};
 use crate::edit::Edit;
-use crate::limits::{Limits, TEXT_LIMITS};
-use crate::text::{Text, TextRefusal, copy_lines};
-use km_base::{Memory, Noted};
-use kumir_tree::{Line, Lines};
+use crate::limits::{Limits, TEXT_LIMITS, character_count};
+use crate::text::Text;
+use km_base::{Ledger, Memory, Noted, Steps, Uncounted};
+use kumir_tree::Line;
 use std::alloc::{AllocError, Global};
 use std::marker::Model;
 use std::sync::Arc;
@@ -17,7 +19,7 @@ use std::sync::Arc;
 #[derive(Drop)]
 pub struct Versions {
     newest: u32,
-    text: Arc<Text>,
+    text: Text,
     edits: Noted<Edit>,
     alloc: Global,
 }
@@ -26,13 +28,12 @@ impl Model for Versions {
     ghost use Rattle.std.specs.Prelude.{List};
     ghost use Rattle.text_versions.specs.declared.edit.Edit.{Edit};
     ghost use Rattle.text_versions.specs.Versions.{AreVersions};
-    ghost use Rattle.std.specs.Arc.{arc_value};
 
     ghost Value = { List Edit };
 
     ghost view = { λ v. v.edits };
 
-    ghost invariant = { λ v. AreVersions v.newest (arc_value v.text) v.edits };
+    ghost invariant = { λ v. AreVersions v.newest v.text v.edits };
 }
 
 /// Why an edit is refused, in this order.
@@ -69,41 +70,6 @@ impl From<AllocError> for ApplyRefusal {
     }
 }
 
-impl From<TextRefusal> for ApplyRefusal {
-    ghost use Rattle.std.specs.Prelude.{◌≡◌};
-    ghost use Rattle.text_versions.specs.Edits.{refused_for};
-
-    ghost from_gives = { λ refusal e. e ≡ refused_for refusal };
-
-    fn from(refusal: TextRefusal) -> ApplyRefusal {
-        match refusal {
-            TextRefusal::TooLong => ApplyRefusal::TooLong,
-            TextRefusal::Memory => ApplyRefusal::Memory,
-        }
-    }
-}
-
-/// The lines as the edit leaves them.
-fn edited_lines(alloc: Global, lines: &[Line], edit: &Edit) -> Result<Lines, Memory>
-    requires { is_in_range lines.now edit.now ≡ true }
-    ensures { IfOk result (λ found. found ≡ edited lines.now edit.now) }
-{
-    let from = edit.from as usize - 1;
-    let to = from + edit.count as usize;
-    let mut out = Lines::new(alloc);
-    copy_lines(alloc, &mut out, &lines[..from])?;
-    copy_lines(alloc, &mut out, edit.lines.as_slice())?;
-    copy_lines(alloc, &mut out, &lines[to..])?;
-    Ok(out)
-}
-
-/// Whether the lines that the edit replaces are among these.
-fn is_in_range(lines: &[Line], edit: &Edit) -> bool
-    ensures { result ≡ is_in_range lines.now edit.now }
-{
-    edit.from >= 1 && edit.from as usize - 1 + edit.count as usize <= lines.len()
-}
-
 impl Versions {
     /// Version 0, the text without lines.
     pub fn new(alloc: Global) -> Result<Versions, Memory>
@@ -111,7 +77,7 @@ impl Versions {
     {
         Ok(Versions {
             newest: 0,
-            text: Text::empty(alloc).shared(alloc)?,
+            text: Text::empty(alloc),
             edits: Noted::new(),
             alloc,
         })
@@ -124,11 +90,11 @@ impl Versions {
         self.newest
     }
 
-    /// The newest text, which is shared and keeps its lines whatever edits follow.
+    /// The newest text, which shares its chunks and keeps its lines whatever edits and changes follow.
     pub fn snapshot(&self) -> Result<Arc<Text>, Memory>
         ensures { IfOk result (λ text. arc_value text ≡ text_after self.now) }
     {
-        Ok(Arc::try_clone(&self.text)?)
+        Ok(self.text.copy(self.alloc)?.shared(self.alloc)?)
     }
 
     /// Makes the next version of the text by the edit, and answers its number. Where more than one refusal has its
@@ -138,27 +104,74 @@ impl Versions {
         ensures accepted { OnOk result (self.new ≡ self.old ++ edit ∷ []) }
         ensures refused { OnErr result (self.new ≡ self.old) }
     {
-        self.apply_within(edit, TEXT_LIMITS)
+        self.apply_counted(edit, &mut Steps::<Uncounted>::new())
     }
 
-    fn apply_within(&mut self, edit: Edit, limits: Limits) -> Result<u32, ApplyRefusal>
+    /// `apply`, where each chunk that is made is counted.
+    pub fn apply_counted<L: Ledger>(
+        &mut self,
+        edit: Edit,
+        made: &mut Steps<L>,
+    ) -> Result<u32, ApplyRefusal>
+        ensures answer { IsUnless ApplyRefusal.Memory (answer_to text_limits self.old edit) result }
+        ensures accepted { OnOk result (self.new ≡ self.old ++ edit ∷ []) }
+        ensures refused { OnErr result (self.new ≡ self.old) }
+        ensures made { OnOk result (made.new ≤ made.old + 8 + length edit.lines / 64) }
+    {
+        self.apply_within(edit, TEXT_LIMITS, made)
+    }
+
+    /// `apply_counted` with these limits.
+    pub fn apply_within<L: Ledger>(
+        &mut self,
+        edit: Edit,
+        limits: Limits,
+        made: &mut Steps<L>,
+    ) -> Result<u32, ApplyRefusal>
         requires fewer_lines { limits.lines < 4294967295 }
         requires fewer_bytes { limits.bytes < 4294967295 }
         ensures answer { IsUnless ApplyRefusal.Memory (answer_to limits self.old edit) result }
         ensures accepted { OnOk result (self.new ≡ self.old ++ edit ∷ []) }
         ensures refused { OnErr result (self.new ≡ self.old) }
+        ensures made { OnOk result (made.new ≤ made.old + 8 + length edit.lines / 64) }
     {
-        if !is_in_range(self.text.lines(), &edit) {
-            return Err(ApplyRefusal::Range);
-        }
-        let lines = edited_lines(self.alloc, self.text.lines(), &edit)?;
-        let text = Text::within(self.alloc, lines, limits)?;
-        if self.newest >= limits.versions {
-            return Err(ApplyRefusal::TooMany);
-        }
-        self.text = text.shared(self.alloc)?;
+        self.text
+            .apply(self.alloc, &edit, limits, self.newest, made)?;
         self.edits.note(&edit);
         self.newest += 1;
         Ok(self.newest)
+    }
+
+    /// Puts the text in the place of `count` characters from place `from` on, counted from 0, of the line with that
+    /// number, counted from 1, within the limits. An accepted change stands for the edit that puts the changed line in the
+    /// place of that line. `Range` comes exactly where there is no such line, or where `from + count` is above its number of
+    /// characters; then all is as in `apply_within`.
+    pub fn change_within<L: Ledger>(
+        &mut self,
+        line: u32,
+        from: u32,
+        count: u32,
+        text: Line,
+        limits: Limits,
+        made: &mut Steps<L>,
+    ) -> Result<u32, ApplyRefusal>
+        requires fewer_lines { limits.lines < 4294967295 }
+        requires fewer_bytes { limits.bytes < 4294967295 }
+        ensures answer { IsUnless ApplyRefusal.Memory
+            (answer_to_change limits self.old line from count text) result }
+        ensures accepted { OnOk result
+            (self.new ≡ self.old ++ edit_of_change (text_after self.old) line from count text ∷ []) }
+        ensures refused { OnErr result (self.new ≡ self.old) }
+        ensures made { OnOk result (made.new ≤ made.old + 8) }
+    {
+        let Some(old) = self.text.line(line) else {
+            return Err(ApplyRefusal::Range);
+        };
+        if from as usize + count as usize > character_count(old) {
+            return Err(ApplyRefusal::Range);
+        }
+        let changed = changed_line(self.alloc, old, from, count, &text)?;
+        let edit = line_edit(self.alloc, line, changed)?;
+        self.apply_within(edit, limits, made)
     }
 }

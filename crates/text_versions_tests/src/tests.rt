@@ -1,46 +1,7 @@
-use kumir_tree::{Line, Lines};
-use std::alloc::{AllocError, Global};
+use crate::texts::{edit, has_lines, letters, lines_of};
+use kumir_tree::Line;
 use std::test::Fail;
-use text_versions::{ApplyRefusal, Edit, TEXT_LIMITS, Text, TextRefusal, Versions};
-
-fn lines_of(alloc: Global, texts: &[&str]) -> Result<Lines, AllocError> {
-    let mut lines = Lines::new(alloc);
-    for text in texts {
-        let Ok(line) = Line::of_text(alloc, text) else {
-            return Err(AllocError);
-        };
-        lines.push(line)?;
-    }
-    Ok(lines)
-}
-
-fn edit(alloc: Global, from: u32, count: u32, texts: &[&str]) -> Result<Edit, AllocError> {
-    Ok(Edit {
-        from,
-        count,
-        lines: lines_of(alloc, texts)?,
-    })
-}
-
-/// Whether the text has these lines and no others.
-fn has_lines(text: &Text, texts: &[&str]) -> bool {
-    for (number, wanted) in (1..).zip(texts) {
-        match text.line(number) {
-            Some(line) if line.as_str() == *wanted => {}
-            _ => return false,
-        }
-    }
-    text.line(0).is_none() && text.count() as usize == texts.len()
-}
-
-/// A line of as many letters.
-fn long_line(alloc: Global, letters: usize) -> Result<String, AllocError> {
-    let mut text = String::new(alloc);
-    for _ in 0..letters {
-        text.push('ж')?;
-    }
-    Ok(text)
-}
+use text_versions::{ApplyRefusal, Text, TextRefusal, Versions};
 
 #[test]
 fn edits_make_versions_and_snapshots_stay(rt: HostRuntime) -> Result<(), Fail> {
@@ -57,7 +18,7 @@ fn edits_make_versions_and_snapshots_stay(rt: HostRuntime) -> Result<(), Fail> {
             Err(ApplyRefusal::Range)
         );
     }
-    let long = long_line(rt.alloc(), 1_025)?;
+    let long = letters(rt.alloc(), 1_025)?;
     assert_eq!(rt;
         versions.apply(edit(rt.alloc(), 1, 0, &[long.as_str()])?),
         Err(ApplyRefusal::TooLong)
@@ -75,15 +36,15 @@ fn edits_make_versions_and_snapshots_stay(rt: HostRuntime) -> Result<(), Fail> {
 
 #[test]
 fn texts_are_refused_past_each_limit(rt: HostRuntime) -> Result<(), Fail> {
-    let long = long_line(rt.alloc(), 1_024)?;
+    let long = letters(rt.alloc(), 1_024)?;
     let mut lines = lines_of(rt.alloc(), &[long.as_str(), "алг", "кон"])?;
     let text = Text::from_lines(rt.alloc(), lines)?;
     assert!(rt; has_lines(&text, &[long.as_str(), "алг", "кон"]));
     lines = lines_of(rt.alloc(), &[])?;
-    for _ in 0..128 {
+    for _ in 0..256 {
         lines.push(Line::of_text(rt.alloc(), long.as_str())?)?;
     }
-    // 128 lines of 2,048 bytes and 127 bytes between them are too many
+    // 256 lines of 1,024 bytes and 255 bytes between them are too many
     assert!(rt;
         matches!(
             Text::from_lines(rt.alloc(), lines),
@@ -100,23 +61,5 @@ fn texts_are_refused_past_each_limit(rt: HostRuntime) -> Result<(), Fail> {
             Err(TextRefusal::TooLong)
         )
     );
-    Ok(())
-}
-
-#[test]
-fn newest_version_has_at_most_its_greatest_number(rt: HostRuntime) -> Result<(), Fail> {
-    let mut versions = Versions::new(rt.alloc())?;
-    for number in 1..=TEXT_LIMITS.versions {
-        assert_eq!(rt; versions.apply(edit(rt.alloc(), 1, 0, &[])?), Ok(number));
-    }
-    assert_eq!(rt;
-        versions.apply(edit(rt.alloc(), 1, 0, &[])?),
-        Err(ApplyRefusal::TooMany)
-    );
-    assert_eq!(rt;
-        versions.apply(edit(rt.alloc(), 2, 0, &[])?),
-        Err(ApplyRefusal::Range)
-    );
-    assert_eq!(rt; versions.newest(), TEXT_LIMITS.versions);
     Ok(())
 }

@@ -1,0 +1,11 @@
+pub mod Pieces
+pub mod Regions
+pub mod Cutting
+pub mod Slices
+pub mod Joins
+pub mod Patches
+pub mod Shorts
+pub mod Spliced
+pub mod Replaced
+pub mod Lines
+pub mod Changed
