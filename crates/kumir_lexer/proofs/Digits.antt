@@ -47,7 +47,7 @@ pub digits_in_word : (xs : List ℕ) → AllByRecursion (λ d. is_digit d ≡ tr
 digits_in_word [] a = tt
 digits_in_word (x ∷ xs) a = (digit_in_word x a.0, digits_in_word xs a.1)
 
-pub begins_in_word : (named : Bool) (c : ℕ) → begins named c ≡ true → in_word c ≡ true
+pub begins_in_word : (is_after_name : Bool) (c : ℕ) → begins is_after_name c ≡ true → in_word c ≡ true
 begins_in_word true c h = h
 begins_in_word false c h = elim (begins_word c) as (λ b. (b || false) ≡ true → (b || is_digit c) ≡ true) [ true ↦ λ e. refl | false ↦ λ (e : false ≡ true). cc ] h
 

@@ -79,36 +79,36 @@ shape_opens Literal t h = (let e = ap (λ (u : List ℕ). length u) h.2 in omega
 shape_opens Sign t h = sign_opens t (sign_text t h)
 
 -- a token takes a character or more
-pub stands_some : (named : Bool) (class : Class) (text : List ℕ) (n : ℕ) → Stands named class text n → 1 ≤ n
-stands_some named class text n s = omega (arith, (shape_opens class (take n text) s.1.1).0, length-take-le n text s.0)
+pub stands_some : (is_after_name : Bool) (class : Class) (text : List ℕ) (n : ℕ) → Stands is_after_name class text n → 1 ≤ n
+stands_some is_after_name class text n s = omega (arith, (shape_opens class (take n text) s.1.1).0, length-take-le n text s.0)
 
 -- the class that stands has to begin as the text does
-pub stands_opens : (named : Bool) (class : Class) (c : ℕ) (cs : List ℕ) (n : ℕ) → Stands named class (c ∷ cs) n → (begins named c ≡ is_word class) × (opens class c ≡ true)
-stands_opens named class c cs zero s = absurd (omega (arith, stands_some named class (c ∷ cs) zero s))
-stands_opens named class c cs (suc n) s = (s.1.0, (shape_opens class (c ∷ take n cs) s.1.1).1)
+pub stands_opens : (is_after_name : Bool) (class : Class) (c : ℕ) (cs : List ℕ) (n : ℕ) → Stands is_after_name class (c ∷ cs) n → (begins is_after_name c ≡ is_word class) × (opens class c ≡ true)
+stands_opens is_after_name class c cs zero s = absurd (omega (arith, stands_some is_after_name class (c ∷ cs) zero s))
+stands_opens is_after_name class c cs (suc n) s = (s.1.0, (shape_opens class (c ∷ take n cs) s.1.1).1)
 
 -- ---- words
 
-word_limit : (named : Bool) (c : ℕ) (cs : List ℕ) → begins named c ≡ true → (other : Class) (m : ℕ) → Stands named other (c ∷ cs) m → m ≤ suc (prefix_len in_word cs)
-word_limit named c cs h other zero s = omega arith
-word_limit named c cs h Word (suc m) s = let i : m ≤ length cs = omega arith in omega (arith, prefix_longest in_word cs m i s.1.1)
-word_limit named c cs h Number (suc m) s = absurd (let none : ⊥ = cc in none)
-word_limit named c cs h Real (suc m) s = absurd (let none : ⊥ = cc in none)
-word_limit named c cs h Literal (suc m) s = absurd (let none : ⊥ = cc in none)
-word_limit named c cs h Sign (suc m) s = absurd (let none : ⊥ = cc in none)
+word_limit : (is_after_name : Bool) (c : ℕ) (cs : List ℕ) → begins is_after_name c ≡ true → (other : Class) (m : ℕ) → Stands is_after_name other (c ∷ cs) m → m ≤ suc (prefix_len in_word cs)
+word_limit is_after_name c cs h other zero s = omega arith
+word_limit is_after_name c cs h Word (suc m) s = let i : m ≤ length cs = omega arith in omega (arith, prefix_longest in_word cs m i s.1.1)
+word_limit is_after_name c cs h Number (suc m) s = absurd (let none : ⊥ = cc in none)
+word_limit is_after_name c cs h Real (suc m) s = absurd (let none : ⊥ = cc in none)
+word_limit is_after_name c cs h Literal (suc m) s = absurd (let none : ⊥ = cc in none)
+word_limit is_after_name c cs h Sign (suc m) s = absurd (let none : ⊥ = cc in none)
 
-longest_word : (named : Bool) (c : ℕ) (cs : List ℕ) → begins named c ≡ true → Longest named Word (c ∷ cs) (prefix_len in_word (c ∷ cs))
-longest_word named c cs h =
-    let starts : in_word c ≡ true = begins_in_word named c h in
+longest_word : (is_after_name : Bool) (c : ℕ) (cs : List ℕ) → begins is_after_name c ≡ true → Longest is_after_name Word (c ∷ cs) (prefix_len in_word (c ∷ cs))
+longest_word is_after_name c cs h =
+    let starts : in_word c ≡ true = begins_in_word is_after_name c h in
     let one : suc (prefix_len in_word cs) ≡ prefix_len in_word (c ∷ cs) = rw starts (omega arith) in
-    subst (Longest named Word (c ∷ cs)) one (record {
+    subst (Longest is_after_name Word (c ∷ cs)) one (record {
       stands = (omega (arith, prefix_fits in_word cs), (h, prefix_passes in_word cs));
-      longest = word_limit named c cs h;
+      longest = word_limit is_after_name c cs h;
     })
 
-pub longest_word_at : (named : Bool) (text : List ℕ) (n x : ℕ) → 1 ≤ length text → x ≡ get_or text 0 0 → begins named x ≡ true → n ≡ prefix_len in_word text → Longest named Word text n
-longest_word_at named [] n x l e h p = absurd (omega arith)
-longest_word_at named (c ∷ cs) n x l e h p = subst (Longest named Word (c ∷ cs)) (sym p) (longest_word named c cs (subst (λ y. begins named y ≡ true) e h))
+pub longest_word_at : (is_after_name : Bool) (text : List ℕ) (n x : ℕ) → 1 ≤ length text → x ≡ get_or text 0 0 → begins is_after_name x ≡ true → n ≡ prefix_len in_word text → Longest is_after_name Word text n
+longest_word_at is_after_name [] n x l e h p = absurd (omega arith)
+longest_word_at is_after_name (c ∷ cs) n x l e h p = subst (Longest is_after_name Word (c ∷ cs)) (sym p) (longest_word is_after_name c cs (subst (λ y. begins is_after_name y ≡ true) e h))
 
 -- ---- the other classes, where no word begins
 
@@ -136,94 +136,94 @@ pub quote_opens_no_sign : (c : ℕ) → is_quote c ≡ true → (not (is_digit c
 quote_opens_no_sign c q h = let e : not (is_quote c) ≡ true = (both_true (not (is_digit c)) (not (is_quote c)) h).1 in let f : not (is_quote c) ≡ false = rw q refl in cc
 
 -- what begins with a digit is no longer than the digits and the real there
-digit_limit : (named : Bool) (c : ℕ) (cs : List ℕ) (k : ℕ) → begins named c ≡ false → is_digit c ≡ true → prefix_len is_digit (c ∷ cs) ≤ k → real_len (c ∷ cs) ≤ k → (other : Class) (m : ℕ) → Stands named other (c ∷ cs) m → m ≤ k
-digit_limit named c cs k h d n r Word m s = let e = (stands_opens named Word c cs m s).0 in absurd (let none : ⊥ = cc in none)
-digit_limit named c cs k h d n r Number m s = omega (arith, number_limit (c ∷ cs) m s.0 s.1.1)
-digit_limit named c cs k h d n r Real m s = omega (arith, real_limit (c ∷ cs) m s.0 s.1.1)
-digit_limit named c cs k h d n r Literal m s = absurd (digit_is_no_quote c d (stands_opens named Literal c cs m s).1)
-digit_limit named c cs k h d n r Sign m s = absurd (digit_opens_no_sign c d (stands_opens named Sign c cs m s).1)
+digit_limit : (is_after_name : Bool) (c : ℕ) (cs : List ℕ) (k : ℕ) → begins is_after_name c ≡ false → is_digit c ≡ true → prefix_len is_digit (c ∷ cs) ≤ k → real_len (c ∷ cs) ≤ k → (other : Class) (m : ℕ) → Stands is_after_name other (c ∷ cs) m → m ≤ k
+digit_limit is_after_name c cs k h d n r Word m s = let e = (stands_opens is_after_name Word c cs m s).0 in absurd (let none : ⊥ = cc in none)
+digit_limit is_after_name c cs k h d n r Number m s = omega (arith, number_limit (c ∷ cs) m s.0 s.1.1)
+digit_limit is_after_name c cs k h d n r Real m s = omega (arith, real_limit (c ∷ cs) m s.0 s.1.1)
+digit_limit is_after_name c cs k h d n r Literal m s = absurd (digit_is_no_quote c d (stands_opens is_after_name Literal c cs m s).1)
+digit_limit is_after_name c cs k h d n r Sign m s = absurd (digit_opens_no_sign c d (stands_opens is_after_name Sign c cs m s).1)
 
 -- what begins with a quote is a literal
-quote_limit : (named : Bool) (c : ℕ) (cs : List ℕ) → begins named c ≡ false → is_quote c ≡ true → (other : Class) (m : ℕ) → Stands named other (c ∷ cs) m → m ≤ literal_len (c ∷ cs)
-quote_limit named c cs h q Word m s = let e = (stands_opens named Word c cs m s).0 in absurd (let none : ⊥ = cc in none)
-quote_limit named c cs h q Number m s = absurd (digit_is_no_quote c (stands_opens named Number c cs m s).1 q)
-quote_limit named c cs h q Real m s = absurd (digit_is_no_quote c (stands_opens named Real c cs m s).1 q)
-quote_limit named c cs h q Literal m s = literal_limit (c ∷ cs) m s.0 s.1.1
-quote_limit named c cs h q Sign m s = absurd (quote_opens_no_sign c q (stands_opens named Sign c cs m s).1)
+quote_limit : (is_after_name : Bool) (c : ℕ) (cs : List ℕ) → begins is_after_name c ≡ false → is_quote c ≡ true → (other : Class) (m : ℕ) → Stands is_after_name other (c ∷ cs) m → m ≤ literal_len (c ∷ cs)
+quote_limit is_after_name c cs h q Word m s = let e = (stands_opens is_after_name Word c cs m s).0 in absurd (let none : ⊥ = cc in none)
+quote_limit is_after_name c cs h q Number m s = absurd (digit_is_no_quote c (stands_opens is_after_name Number c cs m s).1 q)
+quote_limit is_after_name c cs h q Real m s = absurd (digit_is_no_quote c (stands_opens is_after_name Real c cs m s).1 q)
+quote_limit is_after_name c cs h q Literal m s = literal_limit (c ∷ cs) m s.0 s.1.1
+quote_limit is_after_name c cs h q Sign m s = absurd (quote_opens_no_sign c q (stands_opens is_after_name Sign c cs m s).1)
 
 -- what begins otherwise is a sign
-other_limit : (named : Bool) (c : ℕ) (cs : List ℕ) → begins named c ≡ false → is_digit c ≡ false → is_quote c ≡ false → (other : Class) (m : ℕ) → Stands named other (c ∷ cs) m → m ≤ sign_len (c ∷ cs)
-other_limit named c cs h d q Word m s = let e = (stands_opens named Word c cs m s).0 in absurd (let none : ⊥ = cc in none)
-other_limit named c cs h d q Number m s = let e = (stands_opens named Number c cs m s).1 in absurd (let none : ⊥ = cc in none)
-other_limit named c cs h d q Real m s = let e = (stands_opens named Real c cs m s).1 in absurd (let none : ⊥ = cc in none)
-other_limit named c cs h d q Literal m s = let e = (stands_opens named Literal c cs m s).1 in absurd (let none : ⊥ = cc in none)
-other_limit named c cs h d q Sign m s = sign_limit (c ∷ cs) m s.0 s.1.1
+other_limit : (is_after_name : Bool) (c : ℕ) (cs : List ℕ) → begins is_after_name c ≡ false → is_digit c ≡ false → is_quote c ≡ false → (other : Class) (m : ℕ) → Stands is_after_name other (c ∷ cs) m → m ≤ sign_len (c ∷ cs)
+other_limit is_after_name c cs h d q Word m s = let e = (stands_opens is_after_name Word c cs m s).0 in absurd (let none : ⊥ = cc in none)
+other_limit is_after_name c cs h d q Number m s = let e = (stands_opens is_after_name Number c cs m s).1 in absurd (let none : ⊥ = cc in none)
+other_limit is_after_name c cs h d q Real m s = let e = (stands_opens is_after_name Real c cs m s).1 in absurd (let none : ⊥ = cc in none)
+other_limit is_after_name c cs h d q Literal m s = let e = (stands_opens is_after_name Literal c cs m s).1 in absurd (let none : ⊥ = cc in none)
+other_limit is_after_name c cs h d q Sign m s = sign_limit (c ∷ cs) m s.0 s.1.1
 
 real_longer : (text : List ℕ) → 1 ≤ real_len text → prefix_len is_digit text ≤ real_len text
 real_longer text h = grind arith
 
 -- ---- at a text whose first character is known
 
-pub longest_number_at : (named : Bool) (text : List ℕ) (n r x : ℕ) → 1 ≤ length text → x ≡ get_or text 0 0 → begins named x ≡ false → is_digit x ≡ true → n ≡ prefix_len is_digit text → r ≡ real_len text → r ≤ 0 → Longest named Number text n
-longest_number_at named [] n r x l e h d p q z = absurd (omega arith)
-longest_number_at named (c ∷ cs) n r x l e h d p q z =
-    let h' = subst (λ y. begins named y ≡ false) e h in
+pub longest_number_at : (is_after_name : Bool) (text : List ℕ) (n r x : ℕ) → 1 ≤ length text → x ≡ get_or text 0 0 → begins is_after_name x ≡ false → is_digit x ≡ true → n ≡ prefix_len is_digit text → r ≡ real_len text → r ≤ 0 → Longest is_after_name Number text n
+longest_number_at is_after_name [] n r x l e h d p q z = absurd (omega arith)
+longest_number_at is_after_name (c ∷ cs) n r x l e h d p q z =
+    let h' = subst (λ y. begins is_after_name y ≡ false) e h in
     let d' = subst (λ y. is_digit y ≡ true) e d in
     let one : suc (prefix_len is_digit cs) ≡ n = p' d' p in
-    subst (Longest named Number (c ∷ cs)) one (record {
+    subst (Longest is_after_name Number (c ∷ cs)) one (record {
       stands = (omega (arith, prefix_fits is_digit cs), (h', (d', prefix_passes is_digit cs)));
-      longest = digit_limit named c cs (suc (prefix_len is_digit cs)) h' d' (omega (arith, one, p)) (omega (arith, q));
+      longest = digit_limit is_after_name c cs (suc (prefix_len is_digit cs)) h' d' (omega (arith, one, p)) (omega (arith, q));
     }) where
       p' : is_digit c ≡ true → n ≡ prefix_len is_digit (c ∷ cs) → suc (prefix_len is_digit cs) ≡ n
       p' d' p = sym (p ∙ rw d' (omega arith))
 
-stands_from : (named : Bool) (class : Class) (c : ℕ) (cs : List ℕ) (n : ℕ) → 1 ≤ n → n ≤ length (c ∷ cs) → begins named c ≡ is_word class → HasShape class (take n (c ∷ cs)) → Stands named class (c ∷ cs) n
-stands_from named class c cs zero some l h s = absurd (omega arith)
-stands_from named class c cs (suc n) some l h s = (l, (h, s))
+stands_from : (is_after_name : Bool) (class : Class) (c : ℕ) (cs : List ℕ) (n : ℕ) → 1 ≤ n → n ≤ length (c ∷ cs) → begins is_after_name c ≡ is_word class → HasShape class (take n (c ∷ cs)) → Stands is_after_name class (c ∷ cs) n
+stands_from is_after_name class c cs zero some l h s = absurd (omega arith)
+stands_from is_after_name class c cs (suc n) some l h s = (l, (h, s))
 
 digit_counts : (c : ℕ) (cs : List ℕ) → is_digit c ≡ true → 1 ≤ prefix_len is_digit (c ∷ cs)
 digit_counts c cs d = rw d (omega arith)
 
-pub longest_real_at : (named : Bool) (text : List ℕ) (n x : ℕ) → 1 ≤ length text → x ≡ get_or text 0 0 → begins named x ≡ false → is_digit x ≡ true → n ≡ real_len text → n ≤ length text → 0 < n → Longest named Real text n
-longest_real_at named [] n x l e h d p w z = absurd (omega arith)
-longest_real_at named (c ∷ cs) n x l e h d p w z =
-    let h' = subst (λ y. begins named y ≡ false) e h in
+pub longest_real_at : (is_after_name : Bool) (text : List ℕ) (n x : ℕ) → 1 ≤ length text → x ≡ get_or text 0 0 → begins is_after_name x ≡ false → is_digit x ≡ true → n ≡ real_len text → n ≤ length text → 0 < n → Longest is_after_name Real text n
+longest_real_at is_after_name [] n x l e h d p w z = absurd (omega arith)
+longest_real_at is_after_name (c ∷ cs) n x l e h d p w z =
+    let h' = subst (λ y. begins is_after_name y ≡ false) e h in
     let d' = subst (λ y. is_digit y ≡ true) e d in
     let some : 1 ≤ real_len (c ∷ cs) = omega (arith, p) in
-    subst (Longest named Real (c ∷ cs)) (sym p) (record {
-      stands = stands_from named Real c cs (real_len (c ∷ cs)) some (omega (arith, p)) h' (real_ok (c ∷ cs) (digit_counts c cs d') some);
-      longest = digit_limit named c cs (real_len (c ∷ cs)) h' d' (real_longer (c ∷ cs) some) (omega arith);
+    subst (Longest is_after_name Real (c ∷ cs)) (sym p) (record {
+      stands = stands_from is_after_name Real c cs (real_len (c ∷ cs)) some (omega (arith, p)) h' (real_ok (c ∷ cs) (digit_counts c cs d') some);
+      longest = digit_limit is_after_name c cs (real_len (c ∷ cs)) h' d' (real_longer (c ∷ cs) some) (omega arith);
     })
 
-pub longest_literal_at : (named : Bool) (text : List ℕ) (n x : ℕ) → 1 ≤ length text → x ≡ get_or text 0 0 → begins named x ≡ false → is_quote x ≡ true → n ≡ literal_len text → n ≤ length text → 0 < n → Longest named Literal text n
-longest_literal_at named [] n x l e h q p w z = absurd (omega arith)
-longest_literal_at named (c ∷ cs) n x l e h q p w z =
-    let h' = subst (λ y. begins named y ≡ false) e h in
+pub longest_literal_at : (is_after_name : Bool) (text : List ℕ) (n x : ℕ) → 1 ≤ length text → x ≡ get_or text 0 0 → begins is_after_name x ≡ false → is_quote x ≡ true → n ≡ literal_len text → n ≤ length text → 0 < n → Longest is_after_name Literal text n
+longest_literal_at is_after_name [] n x l e h q p w z = absurd (omega arith)
+longest_literal_at is_after_name (c ∷ cs) n x l e h q p w z =
+    let h' = subst (λ y. begins is_after_name y ≡ false) e h in
     let q' = subst (λ y. is_quote y ≡ true) e q in
     let some : 1 ≤ literal_len (c ∷ cs) = omega (arith, p) in
-    subst (Longest named Literal (c ∷ cs)) (sym p) (record {
-      stands = stands_from named Literal c cs (literal_len (c ∷ cs)) some (omega (arith, p)) h' (literal_ok (c ∷ cs) some);
-      longest = quote_limit named c cs h' q';
+    subst (Longest is_after_name Literal (c ∷ cs)) (sym p) (record {
+      stands = stands_from is_after_name Literal c cs (literal_len (c ∷ cs)) some (omega (arith, p)) h' (literal_ok (c ∷ cs) some);
+      longest = quote_limit is_after_name c cs h' q';
     })
 
-pub longest_sign_at : (named : Bool) (text : List ℕ) (n x : ℕ) → 1 ≤ length text → x ≡ get_or text 0 0 → begins named x ≡ false → is_digit x ≡ false → is_quote x ≡ false → n ≡ sign_len text → n ≤ length text → 0 < n → Longest named Sign text n
-longest_sign_at named [] n x l e h d q p w z = absurd (omega arith)
-longest_sign_at named (c ∷ cs) n x l e h d q p w z =
-    let h' = subst (λ y. begins named y ≡ false) e h in
+pub longest_sign_at : (is_after_name : Bool) (text : List ℕ) (n x : ℕ) → 1 ≤ length text → x ≡ get_or text 0 0 → begins is_after_name x ≡ false → is_digit x ≡ false → is_quote x ≡ false → n ≡ sign_len text → n ≤ length text → 0 < n → Longest is_after_name Sign text n
+longest_sign_at is_after_name [] n x l e h d q p w z = absurd (omega arith)
+longest_sign_at is_after_name (c ∷ cs) n x l e h d q p w z =
+    let h' = subst (λ y. begins is_after_name y ≡ false) e h in
     let d' = subst (λ y. is_digit y ≡ false) e d in
     let q' = subst (λ y. is_quote y ≡ false) e q in
     let some : 1 ≤ sign_len (c ∷ cs) = omega (arith, p) in
-    subst (Longest named Sign (c ∷ cs)) (sym p) (record {
-      stands = stands_from named Sign c cs (sign_len (c ∷ cs)) some (omega (arith, p)) h' (sign_ok (c ∷ cs) some);
-      longest = other_limit named c cs h' d' q';
+    subst (Longest is_after_name Sign (c ∷ cs)) (sym p) (record {
+      stands = stands_from is_after_name Sign c cs (sign_len (c ∷ cs)) some (omega (arith, p)) h' (sign_ok (c ∷ cs) some);
+      longest = other_limit is_after_name c cs h' d' q';
     })
 
-pub no_literal_at : (named : Bool) (text : List ℕ) (n x : ℕ) → 1 ≤ length text → x ≡ get_or text 0 0 → begins named x ≡ false → is_quote x ≡ true → n ≡ literal_len text → n ≤ 0 → NoneStands named text
-no_literal_at named [] n x l e h q p z = absurd (omega arith)
-no_literal_at named (c ∷ cs) n x l e h q p z =
-    λ class m s. let most = quote_limit named c cs (subst (λ y. begins named y ≡ false) e h) (subst (λ y. is_quote y ≡ true) e q) class m s in omega (arith, most, p, z, stands_some named class (c ∷ cs) m s)
+pub no_literal_at : (is_after_name : Bool) (text : List ℕ) (n x : ℕ) → 1 ≤ length text → x ≡ get_or text 0 0 → begins is_after_name x ≡ false → is_quote x ≡ true → n ≡ literal_len text → n ≤ 0 → NoneStands is_after_name text
+no_literal_at is_after_name [] n x l e h q p z = absurd (omega arith)
+no_literal_at is_after_name (c ∷ cs) n x l e h q p z =
+    λ class m s. let most = quote_limit is_after_name c cs (subst (λ y. begins is_after_name y ≡ false) e h) (subst (λ y. is_quote y ≡ true) e q) class m s in omega (arith, most, p, z, stands_some is_after_name class (c ∷ cs) m s)
 
-pub no_sign_at : (named : Bool) (text : List ℕ) (n x : ℕ) → 1 ≤ length text → x ≡ get_or text 0 0 → begins named x ≡ false → is_digit x ≡ false → is_quote x ≡ false → n ≡ sign_len text → n ≤ 0 → NoneStands named text
-no_sign_at named [] n x l e h d q p z = absurd (omega arith)
-no_sign_at named (c ∷ cs) n x l e h d q p z =
-    λ class m s. let most = other_limit named c cs (subst (λ y. begins named y ≡ false) e h) (subst (λ y. is_digit y ≡ false) e d) (subst (λ y. is_quote y ≡ false) e q) class m s in omega (arith, most, p, z, stands_some named class (c ∷ cs) m s)
+pub no_sign_at : (is_after_name : Bool) (text : List ℕ) (n x : ℕ) → 1 ≤ length text → x ≡ get_or text 0 0 → begins is_after_name x ≡ false → is_digit x ≡ false → is_quote x ≡ false → n ≡ sign_len text → n ≤ 0 → NoneStands is_after_name text
+no_sign_at is_after_name [] n x l e h d q p z = absurd (omega arith)
+no_sign_at is_after_name (c ∷ cs) n x l e h d q p z =
+    λ class m s. let most = other_limit is_after_name c cs (subst (λ y. begins is_after_name y ≡ false) e h) (subst (λ y. is_digit y ≡ false) e d) (subst (λ y. is_quote y ≡ false) e q) class m s in omega (arith, most, p, z, stands_some is_after_name class (c ∷ cs) m s)

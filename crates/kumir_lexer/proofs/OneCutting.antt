@@ -98,27 +98,27 @@ one_code Real text c d r s = r ∙ sym s
 one_code Literal text c d r s = absurd r
 one_code Sign text c d r s = absurd r
 
-one_fault : (named : Bool) (text : List ℕ) (c d : ℕ) → IsFaulty named text c → IsFaulty named text d → c ≡ d
-one_fault named text c d f g =
+one_fault : (is_after_name : Bool) (text : List ℕ) (c d : ℕ) → IsFaulty is_after_name text c → IsFaulty is_after_name text d → c ≡ d
+one_fault is_after_name text c d f g =
     ⊎_elim
-    (λ (p : NoneStands named text × (c ≡ bad_code (get_or text 0 0))). ⊎_elim
-    (λ (q : NoneStands named text × (d ≡ bad_code (get_or text 0 0))). p.1 ∙ sym q.1)
-    (λ (q : (class : Class) × (n : ℕ) × Longest named class text n × IsRefused class (take n text) d). absurd (p.0 q.0 q.1 q.2.stands))
+    (λ (p : NoneStands is_after_name text × (c ≡ bad_code (get_or text 0 0))). ⊎_elim
+    (λ (q : NoneStands is_after_name text × (d ≡ bad_code (get_or text 0 0))). p.1 ∙ sym q.1)
+    (λ (q : (class : Class) × (n : ℕ) × Longest is_after_name class text n × IsRefused class (take n text) d). absurd (p.0 q.0 q.1 q.2.stands))
     g)
-    (λ (p : (class : Class) × (n : ℕ) × Longest named class text n × IsRefused class (take n text) c). ⊎_elim
-    (λ (q : NoneStands named text × (d ≡ bad_code (get_or text 0 0))). absurd (q.0 p.0 p.1 p.2.stands))
-    (λ (q : (class : Class) × (n : ℕ) × Longest named class text n × IsRefused class (take n text) d).
-    let same = one_longest named text p.1 q.1 p.0 q.0 p.2 q.2 in
+    (λ (p : (class : Class) × (n : ℕ) × Longest is_after_name class text n × IsRefused class (take n text) c). ⊎_elim
+    (λ (q : NoneStands is_after_name text × (d ≡ bad_code (get_or text 0 0))). absurd (q.0 p.0 p.1 p.2.stands))
+    (λ (q : (class : Class) × (n : ℕ) × Longest is_after_name class text n × IsRefused class (take n text) d).
+    let same = one_longest is_after_name text p.1 q.1 p.0 q.0 p.2 q.2 in
     one_code p.0 (take p.1 text) c d p.3 (subst (λ k. IsRefused p.0 (take k text) d) (sym same.0) (subst (λ k. IsRefused k (take q.1 text) d) (sym same.1) q.3)))
     g)
     f
 
 -- ---- whole lines
 
-one_token : (named : Bool) (line : List ℕ) (t u : Spanned) → t.from ≡ u.from → IsToken named line t → IsToken named line u → t ≡ u
-one_token named line t u e a b =
-    let b' : Longest named b.class (drop t.from line) (u.to - u.from) = subst (λ p. Longest named b.class (drop p line) (u.to - u.from)) (sym e) b.longest in
-    let same = one_longest named (drop t.from line) (t.to - t.from) (u.to - u.from) a.class b.class a.longest b' in
+one_token : (is_after_name : Bool) (line : List ℕ) (t u : Spanned) → t.from ≡ u.from → IsToken is_after_name line t → IsToken is_after_name line u → t ≡ u
+one_token is_after_name line t u e a b =
+    let b' : Longest is_after_name b.class (drop t.from line) (u.to - u.from) = subst (λ p. Longest is_after_name b.class (drop p line) (u.to - u.from)) (sym e) b.longest in
+    let same = one_longest is_after_name (drop t.from line) (t.to - t.from) (u.to - u.from) a.class b.class a.longest b' in
     let size : t.to - t.from ≡ u.to - u.from = same.0 in
     let ends : t.to ≡ u.to = omega (arith, a.ordered, b.ordered, e, size) in
     let text : slice_range line u.from u.to ≡ slice_range line t.from t.to = (λ i. slice_range line (sym e i) (sym ends i)) in
@@ -127,35 +127,35 @@ one_token named line t u e a b =
     (λ i. record { token = tokens i; from = e i; to = ends i })
 
 -- a token and a fault at one place
-token_not_fault : (named : Bool) (line : List ℕ) (t : Spanned) (code : ℕ) → IsToken named line t → IsFaulty named (drop t.from line) code → ⊥
-token_not_fault named line t code a f =
+token_not_fault : (is_after_name : Bool) (line : List ℕ) (t : Spanned) (code : ℕ) → IsToken is_after_name line t → IsFaulty is_after_name (drop t.from line) code → ⊥
+token_not_fault is_after_name line t code a f =
     ⊎_elim
-    (λ (p : NoneStands named (drop t.from line) × (code ≡ bad_code (get_or (drop t.from line) 0 0))). p.0 a.class (t.to - t.from) a.longest.stands)
-    (λ (p : (class : Class) × (n : ℕ) × Longest named class (drop t.from line) n × IsRefused class (take n (drop t.from line)) code).
-    let same = one_longest named (drop t.from line) (t.to - t.from) p.1 a.class p.0 a.longest p.2 in
+    (λ (p : NoneStands is_after_name (drop t.from line) × (code ≡ bad_code (get_or (drop t.from line) 0 0))). p.0 a.class (t.to - t.from) a.longest.stands)
+    (λ (p : (class : Class) × (n : ℕ) × Longest is_after_name class (drop t.from line) n × IsRefused class (take n (drop t.from line)) code).
+    let same = one_longest is_after_name (drop t.from line) (t.to - t.from) p.1 a.class p.0 a.longest p.2 in
     let refused : IsRefused a.class (take (t.to - t.from) (drop t.from line)) code = subst (λ k. IsRefused a.class (take k (drop t.from line)) code) (sym same.0) (subst (λ k. IsRefused k (take p.1 (drop t.from line)) code) (sym same.1) p.3) in
     token_or_fault a.class _ t.token code a.spells refused)
     f
 
-only : (named : Bool) (at : ℕ) (line : List ℕ) (ts us : List Spanned) (f g : Option LexFault) → Cuts named at line ts f → Cuts named at line us g → (ts ≡ us) × (f ≡ g)
-only named at line [] [] None None a b = (refl, refl)
-only named at line [] [] None (Some g) a b = absurd (over_or_not line at g.place a b.0)
-only named at line [] [] (Some f) None a b = absurd (over_or_not line at f.place b a.0)
-only named at line [] [] (Some f) (Some g) a b =
+only : (is_after_name : Bool) (at : ℕ) (line : List ℕ) (ts us : List Spanned) (f g : Option LexFault) → Cuts is_after_name at line ts f → Cuts is_after_name at line us g → (ts ≡ us) × (f ≡ g)
+only is_after_name at line [] [] None None a b = (refl, refl)
+only is_after_name at line [] [] None (Some g) a b = absurd (over_or_not line at g.place a b.0)
+only is_after_name at line [] [] (Some f) None a b = absurd (over_or_not line at f.place b a.0)
+only is_after_name at line [] [] (Some f) (Some g) a b =
     let place = one_place line at f.place g.place a.0 b.0 in
-    let code = one_fault named (drop f.place line) f.code g.code a.1 (subst (λ p. IsFaulty named (drop p line) g.code) (sym place) b.1) in
+    let code = one_fault is_after_name (drop f.place line) f.code g.code a.1 (subst (λ p. IsFaulty is_after_name (drop p line) g.code) (sym place) b.1) in
     (refl, λ i. Some (record { code = code i; place = place i }))
-only named at line [] (u ∷ us) None g a b = absurd (over_or_not line at u.from a b.0)
-only named at line (t ∷ ts) [] f None a b = absurd (over_or_not line at t.from b a.0)
-only named at line [] (u ∷ us) (Some f) g a b =
+only is_after_name at line [] (u ∷ us) None g a b = absurd (over_or_not line at u.from a b.0)
+only is_after_name at line (t ∷ ts) [] f None a b = absurd (over_or_not line at t.from b a.0)
+only is_after_name at line [] (u ∷ us) (Some f) g a b =
     let place = one_place line at f.place u.from a.0 b.0 in
-    absurd (token_not_fault named line u f.code b.1 (subst (λ p. IsFaulty named (drop p line) f.code) place a.1))
-only named at line (t ∷ ts) [] f (Some g) a b =
+    absurd (token_not_fault is_after_name line u f.code b.1 (subst (λ p. IsFaulty is_after_name (drop p line) f.code) place a.1))
+only is_after_name at line (t ∷ ts) [] f (Some g) a b =
     let place = one_place line at g.place t.from b.0 a.0 in
-    absurd (token_not_fault named line t g.code a.1 (subst (λ p. IsFaulty named (drop p line) g.code) place b.1))
-only named at line (t ∷ ts) (u ∷ us) f g a b =
+    absurd (token_not_fault is_after_name line t g.code a.1 (subst (λ p. IsFaulty is_after_name (drop p line) g.code) place b.1))
+only is_after_name at line (t ∷ ts) (u ∷ us) f g a b =
     let place = one_place line at t.from u.from a.0 b.0 in
-    let same = one_token named line t u place a.1 b.1 in
+    let same = one_token is_after_name line t u place a.1 b.1 in
     let rest = only (is_name t.token) t.to line ts us f g a.2 (subst (λ (v : Spanned). Cuts (is_name v.token) v.to line us g) (sym same) b.2) in
     ((λ i. same i ∷ rest.0 i), rest.1)
 

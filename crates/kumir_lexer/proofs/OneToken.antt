@@ -65,45 +65,45 @@ real_is_no_digits t (pointed ds es g e) h = differ false (all_behind ds (46 ∷ 
 real_is_no_digits t (pointed_and_scaled ds es xs g e x) h = differ false (all_behind ds (46 ∷ (es ++ xs)) h).0 refl
 real_is_no_digits t (scaled ds xs g x) h = exponent_is_no_digits xs x (all_behind ds xs h)
 
-word_alone : (named : Bool) (d : Class) (c : ℕ) (cs : List ℕ) (n : ℕ) → is_word d ≡ false → Stands named Word (c ∷ cs) n → Stands named d (c ∷ cs) n → ⊥
-word_alone named d c cs n e a b = differ (begins named c) (stands_opens named Word c cs n a).0 ((stands_opens named d c cs n b).0 ∙ e)
+word_alone : (is_after_name : Bool) (d : Class) (c : ℕ) (cs : List ℕ) (n : ℕ) → is_word d ≡ false → Stands is_after_name Word (c ∷ cs) n → Stands is_after_name d (c ∷ cs) n → ⊥
+word_alone is_after_name d c cs n e a b = differ (begins is_after_name c) (stands_opens is_after_name Word c cs n a).0 ((stands_opens is_after_name d c cs n b).0 ∙ e)
 
-two_classes : (named : Bool) (c : ℕ) (cs : List ℕ) (n : ℕ) (a b : Class) → Stands named a (c ∷ cs) n → Stands named b (c ∷ cs) n → a ≡ b
-two_classes named c cs n Word Word a b = refl
-two_classes named c cs n Word Number a b = absurd (word_alone named Number c cs n refl a b)
-two_classes named c cs n Word Real a b = absurd (word_alone named Real c cs n refl a b)
-two_classes named c cs n Word Literal a b = absurd (word_alone named Literal c cs n refl a b)
-two_classes named c cs n Word Sign a b = absurd (word_alone named Sign c cs n refl a b)
-two_classes named c cs n Number Word a b = absurd (word_alone named Number c cs n refl b a)
-two_classes named c cs n Number Number a b = refl
-two_classes named c cs n Number Real a b = absurd (real_is_no_digits _ b.1.1 (digits_pass _ a.1.1))
-two_classes named c cs n Number Literal a b = absurd (digit_is_no_quote c (stands_opens named Number c cs n a).1 (stands_opens named Literal c cs n b).1)
-two_classes named c cs n Number Sign a b = absurd (digit_opens_no_sign c (stands_opens named Number c cs n a).1 (stands_opens named Sign c cs n b).1)
-two_classes named c cs n Real Word a b = absurd (word_alone named Real c cs n refl b a)
-two_classes named c cs n Real Number a b = absurd (real_is_no_digits _ a.1.1 (digits_pass _ b.1.1))
-two_classes named c cs n Real Real a b = refl
-two_classes named c cs n Real Literal a b = absurd (digit_is_no_quote c (stands_opens named Real c cs n a).1 (stands_opens named Literal c cs n b).1)
-two_classes named c cs n Real Sign a b = absurd (digit_opens_no_sign c (stands_opens named Real c cs n a).1 (stands_opens named Sign c cs n b).1)
-two_classes named c cs n Literal Word a b = absurd (word_alone named Literal c cs n refl b a)
-two_classes named c cs n Literal Number a b = absurd (digit_is_no_quote c (stands_opens named Number c cs n b).1 (stands_opens named Literal c cs n a).1)
-two_classes named c cs n Literal Real a b = absurd (digit_is_no_quote c (stands_opens named Real c cs n b).1 (stands_opens named Literal c cs n a).1)
-two_classes named c cs n Literal Literal a b = refl
-two_classes named c cs n Literal Sign a b = absurd (quote_opens_no_sign c (stands_opens named Literal c cs n a).1 (stands_opens named Sign c cs n b).1)
-two_classes named c cs n Sign Word a b = absurd (word_alone named Sign c cs n refl b a)
-two_classes named c cs n Sign Number a b = absurd (digit_opens_no_sign c (stands_opens named Number c cs n b).1 (stands_opens named Sign c cs n a).1)
-two_classes named c cs n Sign Real a b = absurd (digit_opens_no_sign c (stands_opens named Real c cs n b).1 (stands_opens named Sign c cs n a).1)
-two_classes named c cs n Sign Literal a b = absurd (quote_opens_no_sign c (stands_opens named Literal c cs n b).1 (stands_opens named Sign c cs n a).1)
-two_classes named c cs n Sign Sign a b = refl
+two_classes : (is_after_name : Bool) (c : ℕ) (cs : List ℕ) (n : ℕ) (a b : Class) → Stands is_after_name a (c ∷ cs) n → Stands is_after_name b (c ∷ cs) n → a ≡ b
+two_classes is_after_name c cs n Word Word a b = refl
+two_classes is_after_name c cs n Word Number a b = absurd (word_alone is_after_name Number c cs n refl a b)
+two_classes is_after_name c cs n Word Real a b = absurd (word_alone is_after_name Real c cs n refl a b)
+two_classes is_after_name c cs n Word Literal a b = absurd (word_alone is_after_name Literal c cs n refl a b)
+two_classes is_after_name c cs n Word Sign a b = absurd (word_alone is_after_name Sign c cs n refl a b)
+two_classes is_after_name c cs n Number Word a b = absurd (word_alone is_after_name Number c cs n refl b a)
+two_classes is_after_name c cs n Number Number a b = refl
+two_classes is_after_name c cs n Number Real a b = absurd (real_is_no_digits _ b.1.1 (digits_pass _ a.1.1))
+two_classes is_after_name c cs n Number Literal a b = absurd (digit_is_no_quote c (stands_opens is_after_name Number c cs n a).1 (stands_opens is_after_name Literal c cs n b).1)
+two_classes is_after_name c cs n Number Sign a b = absurd (digit_opens_no_sign c (stands_opens is_after_name Number c cs n a).1 (stands_opens is_after_name Sign c cs n b).1)
+two_classes is_after_name c cs n Real Word a b = absurd (word_alone is_after_name Real c cs n refl b a)
+two_classes is_after_name c cs n Real Number a b = absurd (real_is_no_digits _ a.1.1 (digits_pass _ b.1.1))
+two_classes is_after_name c cs n Real Real a b = refl
+two_classes is_after_name c cs n Real Literal a b = absurd (digit_is_no_quote c (stands_opens is_after_name Real c cs n a).1 (stands_opens is_after_name Literal c cs n b).1)
+two_classes is_after_name c cs n Real Sign a b = absurd (digit_opens_no_sign c (stands_opens is_after_name Real c cs n a).1 (stands_opens is_after_name Sign c cs n b).1)
+two_classes is_after_name c cs n Literal Word a b = absurd (word_alone is_after_name Literal c cs n refl b a)
+two_classes is_after_name c cs n Literal Number a b = absurd (digit_is_no_quote c (stands_opens is_after_name Number c cs n b).1 (stands_opens is_after_name Literal c cs n a).1)
+two_classes is_after_name c cs n Literal Real a b = absurd (digit_is_no_quote c (stands_opens is_after_name Real c cs n b).1 (stands_opens is_after_name Literal c cs n a).1)
+two_classes is_after_name c cs n Literal Literal a b = refl
+two_classes is_after_name c cs n Literal Sign a b = absurd (quote_opens_no_sign c (stands_opens is_after_name Literal c cs n a).1 (stands_opens is_after_name Sign c cs n b).1)
+two_classes is_after_name c cs n Sign Word a b = absurd (word_alone is_after_name Sign c cs n refl b a)
+two_classes is_after_name c cs n Sign Number a b = absurd (digit_opens_no_sign c (stands_opens is_after_name Number c cs n b).1 (stands_opens is_after_name Sign c cs n a).1)
+two_classes is_after_name c cs n Sign Real a b = absurd (digit_opens_no_sign c (stands_opens is_after_name Real c cs n b).1 (stands_opens is_after_name Sign c cs n a).1)
+two_classes is_after_name c cs n Sign Literal a b = absurd (quote_opens_no_sign c (stands_opens is_after_name Literal c cs n b).1 (stands_opens is_after_name Sign c cs n a).1)
+two_classes is_after_name c cs n Sign Sign a b = refl
 
-one_class : (named : Bool) (text : List ℕ) (n : ℕ) (a b : Class) → Stands named a text n → Stands named b text n → a ≡ b
-one_class named [] n a b s r = absurd (omega (arith, stands_some named a [] n s, s.0))
-one_class named (c ∷ cs) n a b s r = two_classes named c cs n a b s r
+one_class : (is_after_name : Bool) (text : List ℕ) (n : ℕ) (a b : Class) → Stands is_after_name a text n → Stands is_after_name b text n → a ≡ b
+one_class is_after_name [] n a b s r = absurd (omega (arith, stands_some is_after_name a [] n s, s.0))
+one_class is_after_name (c ∷ cs) n a b s r = two_classes is_after_name c cs n a b s r
 
-one_length : (named : Bool) (text : List ℕ) (n m : ℕ) (a b : Class) → Longest named a text n → Longest named b text m → n ≡ m
-one_length named text n m a b s r = omega (arith, s.longest b m r.stands, r.longest a n s.stands)
+one_length : (is_after_name : Bool) (text : List ℕ) (n m : ℕ) (a b : Class) → Longest is_after_name a text n → Longest is_after_name b text m → n ≡ m
+one_length is_after_name text n m a b s r = omega (arith, s.longest b m r.stands, r.longest a n s.stands)
 
 -- the longest token has one class and one length
-pub one_longest : (named : Bool) (text : List ℕ) (n m : ℕ) (a b : Class) → Longest named a text n → Longest named b text m → (n ≡ m) × (a ≡ b)
-one_longest named text n m a b s r =
-    let e = one_length named text n m a b s r in
-    (e, one_class named text n a b s.stands (subst (λ k. Stands named b text k) (sym e) r.stands))
+pub one_longest : (is_after_name : Bool) (text : List ℕ) (n m : ℕ) (a b : Class) → Longest is_after_name a text n → Longest is_after_name b text m → (n ≡ m) × (a ≡ b)
+one_longest is_after_name text n m a b s r =
+    let e = one_length is_after_name text n m a b s r in
+    (e, one_class is_after_name text n a b s.stands (subst (λ k. Stands is_after_name b text k) (sym e) r.stands))

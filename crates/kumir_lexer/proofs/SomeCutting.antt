@@ -70,40 +70,40 @@ sign_len_fits text l = grind arith
 -- ---- what a prefix is
 
 abbrev Found : Bool → List ℕ → Type 0
-Found named text = ((class : Class) × (n : ℕ) × Longest named class text n) ⊎ NoneStands named text
+Found is_after_name text = ((class : Class) × (n : ℕ) × Longest is_after_name class text n) ⊎ NoneStands is_after_name text
 
-at_digit : (named : Bool) (text : List ℕ) → 1 ≤ length text → begins named (get_or text 0 0) ≡ false → is_digit (get_or text 0 0) ≡ true → Found named text
-at_digit named text l h d =
+at_digit : (is_after_name : Bool) (text : List ℕ) → 1 ≤ length text → begins is_after_name (get_or text 0 0) ≡ false → is_digit (get_or text 0 0) ≡ true → Found is_after_name text
+at_digit is_after_name text l h d =
     ⊎_elim
-    (λ (some : 0 < real_len text). inl (Real, real_len text, longest_real_at named text _ _ l refl h d refl (real_fits text) some))
-    (λ (none : real_len text ≤ 0). inl (Number, prefix_len is_digit text, longest_number_at named text _ _ _ l refl h d refl refl none))
+    (λ (some : 0 < real_len text). inl (Real, real_len text, longest_real_at is_after_name text _ _ l refl h d refl (real_fits text) some))
+    (λ (none : real_len text ≤ 0). inl (Number, prefix_len is_digit text, longest_number_at is_after_name text _ _ _ l refl h d refl refl none))
     (order 0 (real_len text))
 
-at_quote : (named : Bool) (text : List ℕ) → 1 ≤ length text → begins named (get_or text 0 0) ≡ false → is_quote (get_or text 0 0) ≡ true → Found named text
-at_quote named text l h q =
+at_quote : (is_after_name : Bool) (text : List ℕ) → 1 ≤ length text → begins is_after_name (get_or text 0 0) ≡ false → is_quote (get_or text 0 0) ≡ true → Found is_after_name text
+at_quote is_after_name text l h q =
     ⊎_elim
-    (λ (some : 0 < literal_len text). inl (Literal, literal_len text, longest_literal_at named text _ _ l refl h q refl (literal_fits text) some))
-    (λ (none : literal_len text ≤ 0). inr (no_literal_at named text _ _ l refl h q refl none))
+    (λ (some : 0 < literal_len text). inl (Literal, literal_len text, longest_literal_at is_after_name text _ _ l refl h q refl (literal_fits text) some))
+    (λ (none : literal_len text ≤ 0). inr (no_literal_at is_after_name text _ _ l refl h q refl none))
     (order 0 (literal_len text))
 
-at_other : (named : Bool) (text : List ℕ) → 1 ≤ length text → begins named (get_or text 0 0) ≡ false → is_digit (get_or text 0 0) ≡ false → is_quote (get_or text 0 0) ≡ false → Found named text
-at_other named text l h d q =
+at_other : (is_after_name : Bool) (text : List ℕ) → 1 ≤ length text → begins is_after_name (get_or text 0 0) ≡ false → is_digit (get_or text 0 0) ≡ false → is_quote (get_or text 0 0) ≡ false → Found is_after_name text
+at_other is_after_name text l h d q =
     ⊎_elim
-    (λ (some : 0 < sign_len text). inl (Sign, sign_len text, longest_sign_at named text _ _ l refl h d q refl (sign_len_fits text l) some))
-    (λ (none : sign_len text ≤ 0). inr (no_sign_at named text _ _ l refl h d q refl none))
+    (λ (some : 0 < sign_len text). inl (Sign, sign_len text, longest_sign_at is_after_name text _ _ l refl h d q refl (sign_len_fits text l) some))
+    (λ (none : sign_len text ≤ 0). inr (no_sign_at is_after_name text _ _ l refl h d q refl none))
     (order 0 (sign_len text))
 
-found : (named : Bool) (text : List ℕ) → 1 ≤ length text → Found named text
-found named text l =
-    elim (begins named (get_or text 0 0)) as (λ b. begins named (get_or text 0 0) ≡ b → Found named text) [
-      | true ↦ λ h. inl (Word, _, longest_word_at named text _ _ l refl h refl)
+found : (is_after_name : Bool) (text : List ℕ) → 1 ≤ length text → Found is_after_name text
+found is_after_name text l =
+    elim (begins is_after_name (get_or text 0 0)) as (λ b. begins is_after_name (get_or text 0 0) ≡ b → Found is_after_name text) [
+      | true ↦ λ h. inl (Word, _, longest_word_at is_after_name text _ _ l refl h refl)
       | false ↦ λ h.
-          elim (is_digit (get_or text 0 0)) as (λ b. is_digit (get_or text 0 0) ≡ b → Found named text) [
-            | true ↦ λ d. at_digit named text l h d
+          elim (is_digit (get_or text 0 0)) as (λ b. is_digit (get_or text 0 0) ≡ b → Found is_after_name text) [
+            | true ↦ λ d. at_digit is_after_name text l h d
             | false ↦ λ d.
-                elim (is_quote (get_or text 0 0)) as (λ b. is_quote (get_or text 0 0) ≡ b → Found named text) [
-                  | true ↦ λ q. at_quote named text l h q
-                  | false ↦ λ q. at_other named text l h d q
+                elim (is_quote (get_or text 0 0)) as (λ b. is_quote (get_or text 0 0) ≡ b → Found is_after_name text) [
+                  | true ↦ λ q. at_quote is_after_name text l h q
+                  | false ↦ λ q. at_other is_after_name text l h d q
                 ] refl
           ] refl
     ] refl
@@ -139,37 +139,37 @@ says Sign text h =
 -- ---- whole lines
 
 abbrev HasCuts : Bool → ℕ → List ℕ → Type 0
-HasCuts named at line = (ts : List Spanned) × (fault : Option LexFault) × Cuts named at line ts fault
+HasCuts is_after_name at line = (ts : List Spanned) × (fault : Option LexFault) × Cuts is_after_name at line ts fault
 
-step_some : (named : Bool) (at : ℕ) (line : List ℕ) → at < length line → is_blank (get_or line at 0) ≡ false → begins_comment (get_or line at 0) ≡ false → ((named : Bool) (to : ℕ) → at < to → to ≤ length line → HasCuts named to line) → HasCuts named at line
-step_some named at line lt b k more =
+step_some : (is_after_name : Bool) (at : ℕ) (line : List ℕ) → at < length line → is_blank (get_or line at 0) ≡ false → begins_comment (get_or line at 0) ≡ false → ((is_after_name : Bool) (to : ℕ) → at < to → to ≤ length line → HasCuts is_after_name to line) → HasCuts is_after_name at line
+step_some is_after_name at line lt b k more =
     ⊎_elim
-    (λ (stands : (class : Class) × (n : ℕ) × Longest named class (drop at line) n). ⊎_elim
+    (λ (stands : (class : Class) × (n : ℕ) × Longest is_after_name class (drop at line) n). ⊎_elim
     (λ (read : (t : Token) × Spells stands.0 (take stands.1 (drop at line)) t).
-    let here = token_here named line (drop at line) at stands.1 stands.0 (reading.Token read.0) read.0 lt refl stands.2 read.1 refl in
+    let here = token_here is_after_name line (drop at line) at stands.1 stands.0 (reading.Token read.0) read.0 lt refl stands.2 read.1 refl in
     let rest = more (is_name read.0) (at + stands.1) here.1 here.2 in
-    (record { token = read.0; from = at; to = at + stands.1 } ∷ rest.0, rest.1, cut_token named at (get_or line at 0) line (record { token = read.0; from = at; to = at + stands.1 }) rest.0 rest.1 (lt, default) b k refl here.3 rest.2))
+    (record { token = read.0; from = at; to = at + stands.1 } ∷ rest.0, rest.1, cut_token is_after_name at (get_or line at 0) line (record { token = read.0; from = at; to = at + stands.1 }) rest.0 rest.1 (lt, default) b k refl here.3 rest.2))
     (λ (refused : (code : ℕ) × IsRefused stands.0 (take stands.1 (drop at line)) code).
-    ([], Some (record { code = refused.0; place = at }), cut_fault named at (get_or line at 0) line (record { code = refused.0; place = at }) (lt, default) b k refl (inr (stands.0, stands.1, stands.2, refused.1))))
+    ([], Some (record { code = refused.0; place = at }), cut_fault is_after_name at (get_or line at 0) line (record { code = refused.0; place = at }) (lt, default) b k refl (inr (stands.0, stands.1, stands.2, refused.1))))
     (says stands.0 (take stands.1 (drop at line)) stands.2.stands.1.1))
-    (λ (none : NoneStands named (drop at line)).
-    ([], Some (record { code = bad_code (get_or (drop at line) 0 0); place = at }), cut_fault named at (get_or line at 0) line (record { code = bad_code (get_or (drop at line) 0 0); place = at }) (lt, default) b k refl (inl (none, refl))))
-    (found named (drop at line) (omega (arith, length-drop at line))) where
+    (λ (none : NoneStands is_after_name (drop at line)).
+    ([], Some (record { code = bad_code (get_or (drop at line) 0 0); place = at }), cut_fault is_after_name at (get_or line at 0) line (record { code = bad_code (get_or (drop at line) 0 0); place = at }) (lt, default) b k refl (inl (none, refl))))
+    (found is_after_name (drop at line) (omega (arith, length-drop at line))) where
       default : get_or line at 0 ≡ get_or line at (get_or line at 0)
       default = sym (get_or_default_zero line at (get_or line at 0) lt)
 
-cuts_some : (k : ℕ) (named : Bool) (at : ℕ) (line : List ℕ) → length line - at ≤ k → at ≤ length line → HasCuts named at line
-cuts_some zero named at line h le = ([], None, over_end at line le (omega arith))
-cuts_some (suc k) named at line h le =
+cuts_some : (k : ℕ) (is_after_name : Bool) (at : ℕ) (line : List ℕ) → length line - at ≤ k → at ≤ length line → HasCuts is_after_name at line
+cuts_some zero is_after_name at line h le = ([], None, over_end at line le (omega arith))
+cuts_some (suc k) is_after_name at line h le =
     ⊎_elim
     (λ (lt : at < length line).
     let default : get_or line at 0 ≡ get_or line at (get_or line at 0) = sym (get_or_default_zero line at (get_or line at 0) lt) in
-    elim (is_blank (get_or line at 0)) as (λ b. is_blank (get_or line at 0) ≡ b → HasCuts named at line) [
-      | true ↦ λ b. let rest = cuts_some k named (at + 1) line (omega arith) (omega arith) in (rest.0, rest.1, cut_blank_at named at (get_or line at 0) line rest.0 rest.1 (lt, default) b rest.2)
+    elim (is_blank (get_or line at 0)) as (λ b. is_blank (get_or line at 0) ≡ b → HasCuts is_after_name at line) [
+      | true ↦ λ b. let rest = cuts_some k is_after_name (at + 1) line (omega arith) (omega arith) in (rest.0, rest.1, cut_blank_at is_after_name at (get_or line at 0) line rest.0 rest.1 (lt, default) b rest.2)
       | false ↦ λ b.
-          elim (begins_comment (get_or line at 0)) as (λ c. begins_comment (get_or line at 0) ≡ c → HasCuts named at line) [
+          elim (begins_comment (get_or line at 0)) as (λ c. begins_comment (get_or line at 0) ≡ c → HasCuts is_after_name at line) [
             | true ↦ λ c. ([], None, over_comment at (get_or line at 0) line (lt, default) c)
-            | false ↦ λ c. step_some named at line lt b c (λ name to further within. cuts_some k name to line (omega arith) within)
+            | false ↦ λ c. step_some is_after_name at line lt b c (λ name to further within. cuts_some k name to line (omega arith) within)
           ] refl
     ] refl)
     (λ (ge : length line ≤ at). ([], None, over_end at line le ge))

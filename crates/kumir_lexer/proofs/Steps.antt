@@ -27,10 +27,10 @@ reach_further line at to b r = record { behind = omega (arith, r.behind); within
 over_further : (line : List ℕ) (at : ℕ) → is_blank (get_or line at 0) ≡ true → IsOver line (at + 1) → IsOver line at
 over_further line at b r = record { to = r.to; behind = omega (arith, r.behind); within = r.within; blanks = more_blanks line at r.to b r.blanks; ends = r.ends }
 
-cut_blank : (named : Bool) (at : ℕ) (line : List ℕ) (ts : List Spanned) (fault : Option LexFault) → is_blank (get_or line at 0) ≡ true → Cuts named (at + 1) line ts fault → Cuts named at line ts fault
-cut_blank named at line [] None b h = over_further line at b h
-cut_blank named at line [] (Some fault) b h = (reach_further line at fault.place b h.0, h.1)
-cut_blank named at line (t ∷ ts) fault b h = (reach_further line at t.from b h.0, h.1, h.2)
+cut_blank : (is_after_name : Bool) (at : ℕ) (line : List ℕ) (ts : List Spanned) (fault : Option LexFault) → is_blank (get_or line at 0) ≡ true → Cuts is_after_name (at + 1) line ts fault → Cuts is_after_name at line ts fault
+cut_blank is_after_name at line [] None b h = over_further line at b h
+cut_blank is_after_name at line [] (Some fault) b h = (reach_further line at fault.place b h.0, h.1)
+cut_blank is_after_name at line (t ∷ ts) fault b h = (reach_further line at t.from b h.0, h.1, h.2)
 
 -- a character as the code reads it
 abbrev pub IsAt : List ℕ → ℕ → ℕ → Type 0
@@ -40,8 +40,8 @@ is_at : (line : List ℕ) (at x : ℕ) → IsAt line at x → x ≡ get_or line 
 is_at line at x h = h.1 ∙ get_or_default_zero line at x h.0
 
 -- a blank may stand before what is cut
-pub cut_blank_at : (named : Bool) (at x : ℕ) (line : List ℕ) (ts : List Spanned) (fault : Option LexFault) → IsAt line at x → is_blank x ≡ true → Cuts named (at + 1) line ts fault → Cuts named at line ts fault
-cut_blank_at named at x line ts fault h b cut = cut_blank named at line ts fault (subst (λ y. is_blank y ≡ true) (is_at line at x h) b) cut
+pub cut_blank_at : (is_after_name : Bool) (at x : ℕ) (line : List ℕ) (ts : List Spanned) (fault : Option LexFault) → IsAt line at x → is_blank x ≡ true → Cuts is_after_name (at + 1) line ts fault → Cuts is_after_name at line ts fault
+cut_blank_at is_after_name at x line ts fault h b cut = cut_blank is_after_name at line ts fault (subst (λ y. is_blank y ≡ true) (is_at line at x h) b) cut
 
 reach_here : (at x : ℕ) (line : List ℕ) → IsAt line at x → is_blank x ≡ false → begins_comment x ≡ false → Reaches line at at
 reach_here at x line h b k =
@@ -55,19 +55,19 @@ pub over_end : (at : ℕ) (line : List ℕ) → at ≤ length line → length li
 over_end at line le ge = record { to = at; behind = omega arith; within = le; blanks = no_blanks line at; ends = λ lt. absurd (omega arith) }
 
 -- a token that stands here
-pub cut_token : (named : Bool) (at x : ℕ) (line : List ℕ) (t : Spanned) (ts : List Spanned) (fault : Option LexFault) → IsAt line at x → is_blank x ≡ false → begins_comment x ≡ false → t.from ≡ at → IsToken named line t → Cuts (is_name t.token) t.to line ts fault → Cuts named at line (t ∷ ts) fault
-cut_token named at x line t ts fault h b k e token cut = (subst (λ p. Reaches line at p) (sym e) (reach_here at x line h b k), token, cut)
+pub cut_token : (is_after_name : Bool) (at x : ℕ) (line : List ℕ) (t : Spanned) (ts : List Spanned) (fault : Option LexFault) → IsAt line at x → is_blank x ≡ false → begins_comment x ≡ false → t.from ≡ at → IsToken is_after_name line t → Cuts (is_name t.token) t.to line ts fault → Cuts is_after_name at line (t ∷ ts) fault
+cut_token is_after_name at x line t ts fault h b k e token cut = (subst (λ p. Reaches line at p) (sym e) (reach_here at x line h b k), token, cut)
 
 -- a fault that stands here
-pub cut_fault : (named : Bool) (at x : ℕ) (line : List ℕ) (fault : LexFault) → IsAt line at x → is_blank x ≡ false → begins_comment x ≡ false → fault.place ≡ at → IsFaulty named (drop at line) fault.code → Cuts named at line [] (Some fault)
-cut_fault named at x line fault h b k e f = (subst (λ p. Reaches line at p) (sym e) (reach_here at x line h b k), subst (λ p. IsFaulty named (drop p line) fault.code) (sym e) f)
+pub cut_fault : (is_after_name : Bool) (at x : ℕ) (line : List ℕ) (fault : LexFault) → IsAt line at x → is_blank x ≡ false → begins_comment x ≡ false → fault.place ≡ at → IsFaulty is_after_name (drop at line) fault.code → Cuts is_after_name at line [] (Some fault)
+cut_fault is_after_name at x line fault h b k e f = (subst (λ p. Reaches line at p) (sym e) (reach_here at x line h b k), subst (λ p. IsFaulty is_after_name (drop p line) fault.code) (sym e) f)
 
 -- a token of this length stands here
-pub token_here : (named : Bool) (line rest : List ℕ) (at len : ℕ) (class : Class) (found : Reading) (token : Token) → at < length line → rest ≡ drop at line → Longest named class rest len → IsReading class (take len rest) found → found ≡ reading.Token token →
-    (at ≡ at) × (at < at + len) × (at + len ≤ length line) × IsToken named line (record { token = token; from = at; to = at + len })
-token_here named line rest at len class found token lt e long says is =
-    let long' : Longest named class (drop at line) len = subst (λ r. Longest named class r len) e long in
-    let some : 1 ≤ len = stands_some named class (drop at line) len long'.stands in
+pub token_here : (is_after_name : Bool) (line rest : List ℕ) (at len : ℕ) (class : Class) (found : Reading) (token : Token) → at < length line → rest ≡ drop at line → Longest is_after_name class rest len → IsReading class (take len rest) found → found ≡ reading.Token token →
+    (at ≡ at) × (at < at + len) × (at + len ≤ length line) × IsToken is_after_name line (record { token = token; from = at; to = at + len })
+token_here is_after_name line rest at len class found token lt e long says is =
+    let long' : Longest is_after_name class (drop at line) len = subst (λ r. Longest is_after_name class r len) e long in
+    let some : 1 ≤ len = stands_some is_after_name class (drop at line) len long'.stands in
     let size : len ≡ at + len - at = omega arith in
     let says' : IsReading class (take len (drop at line)) (reading.Token token) = subst (λ r. IsReading class (take len r) (reading.Token token)) e (subst (IsReading class (take len rest)) is says) in (
       refl,
@@ -76,7 +76,7 @@ token_here named line rest at len class found token lt e long says is =
       record {
         class = class;
         ordered = omega arith;
-        longest = subst (Longest named class (drop at line)) size long';
+        longest = subst (Longest is_after_name class (drop at line)) size long';
         spells = subst (λ k. Spells class (take k (drop at line)) token) size says';
       },
     )

@@ -63,11 +63,11 @@ pub data IsReal : List ℕ → Type 0 where
 
 -- After a word that is no keyword a digit may begin a word.
 abbrev pub begins : Bool → ℕ → Bool
-begins named c = begins_word c || (named && is_digit c)
+begins is_after_name c = begins_word c || (is_after_name && is_digit c)
 
 abbrev pub starts_word : Bool → List ℕ → Bool
-starts_word named [] = false
-starts_word named (c ∷ cs) = begins named c
+starts_word is_after_name [] = false
+starts_word is_after_name (c ∷ cs) = begins is_after_name c
 
 abbrev pub HasShape : Class → List ℕ → Type 0
 HasShape Word [] = ⊥
@@ -87,17 +87,17 @@ is_word Sign = false
 
 -- The texts of a class. Where a word may begin nothing else is tried, so after a name a digit begins no number.
 abbrev pub IsMember : Bool → Class → List ℕ → Type 0
-IsMember named class text = (starts_word named text ≡ is_word class) × HasShape class text
+IsMember is_after_name class text = (starts_word is_after_name text ≡ is_word class) × HasShape class text
 
 -- the first n characters are of the class
 abbrev pub Stands : Bool → Class → List ℕ → ℕ → Type 0
-Stands named class text n = (n ≤ length text) × IsMember named class (take n text)
+Stands is_after_name class text n = (n ≤ length text) × IsMember is_after_name class (take n text)
 
 -- they are the longest token that is a prefix
-pub record Longest (named : Bool) (class : Class) (text : List ℕ) (n : ℕ) : Type 0 where
-  pub stands : Stands named class text n
-  pub longest : (other : Class) (m : ℕ) → Stands named other text m → m ≤ n
+pub record Longest (is_after_name : Bool) (class : Class) (text : List ℕ) (n : ℕ) : Type 0 where
+  pub stands : Stands is_after_name class text n
+  pub longest : (other : Class) (m : ℕ) → Stands is_after_name other text m → m ≤ n
 
 -- no token is a prefix
 abbrev pub NoneStands : Bool → List ℕ → Type 0
-NoneStands named text = (class : Class) (n : ℕ) → Stands named class text n → ⊥
+NoneStands is_after_name text = (class : Class) (n : ℕ) → Stands is_after_name class text n → ⊥

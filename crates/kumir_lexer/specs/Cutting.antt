@@ -40,9 +40,9 @@ bad_code c = if c == 34 then OPEN_LITERAL else (if c == 47 then REAL else BAD_CH
 
 -- a prefix of the text is a fault with this code
 abbrev pub IsFaulty : Bool → List ℕ → ℕ → Type 0
-IsFaulty named text code =
-    (NoneStands named text × (code ≡ bad_code (slice_index text 0)))
-    ⊎ ((class : Class) × (n : ℕ) × Longest named class text n × IsRefused class (take n text) code)
+IsFaulty is_after_name text code =
+    (NoneStands is_after_name text × (code ≡ bad_code (slice_index text 0)))
+    ⊎ ((class : Class) × (n : ℕ) × Longest is_after_name class text n × IsRefused class (take n text) code)
 
 -- ---- a whole line
 
@@ -66,10 +66,10 @@ pub record IsOver (line : List ℕ) (from : ℕ) : Type 0 where
   pub ends : to < length line → begins_comment (slice_index line to) ≡ true
 
 -- the longest token at its place, and what it spells
-pub record IsToken (named : Bool) (line : List ℕ) (t : Spanned) : Type 0 where
+pub record IsToken (is_after_name : Bool) (line : List ℕ) (t : Spanned) : Type 0 where
   pub class : Class
   pub ordered : t.from ≤ t.to
-  pub longest : Longest named class (drop t.from line) (t.to - t.from)
+  pub longest : Longest is_after_name class (drop t.from line) (t.to - t.from)
   pub spells : Spells class (slice_range line t.from t.to) t.token
 
 abbrev pub is_name : Token → Bool
@@ -80,11 +80,11 @@ is_name (token.Literal cs) = false
 is_name (token.Sign s) = false
 
 -- From a place on the line has these tokens, each word for itself, up to the first fault or to the end.
--- `named` says that the token before is a word that is no keyword.
+-- `is_after_name` says that the token before is a word that is no keyword.
 abbrev pub Cuts : Bool → ℕ → List ℕ → List Spanned → Option LexFault → Type 0
-Cuts named at line [] None = IsOver line at
-Cuts named at line [] (Some fault) = Reaches line at fault.place × IsFaulty named (drop fault.place line) fault.code
-Cuts named at line (t ∷ ts) fault = Reaches line at t.from × IsToken named line t × Cuts (is_name t.token) t.to line ts fault
+Cuts is_after_name at line [] None = IsOver line at
+Cuts is_after_name at line [] (Some fault) = Reaches line at fault.place × IsFaulty is_after_name (drop fault.place line) fault.code
+Cuts is_after_name at line (t ∷ ts) fault = Reaches line at t.from × IsToken is_after_name line t × Cuts (is_name t.token) t.to line ts fault
 
 -- the line has these tokens, with runs of words joined to names, and this first fault
 abbrev pub Cut : List ℕ → List Spanned → Option LexFault → Type 0

@@ -15,5 +15,5 @@ IsReading class text (reading.Fault code) = IsRefused class text code
 
 -- what stands at a place of a line
 abbrev pub IsStep : Bool → List ℕ → ℕ → Step → Type 0
-IsStep named line at (step.Token t) = (t.from ≡ at) × (at < t.to) × (t.to ≤ length line) × IsToken named line t
-IsStep named line at (step.Fault fault) = (fault.place ≡ at) × IsFaulty named (drop at line) fault.code
+IsStep is_after_name line at (step.Token t) = (t.from ≡ at) × (at < t.to) × (t.to ≤ length line) × IsToken is_after_name line t
+IsStep is_after_name line at (step.Fault fault) = (fault.place ≡ at) × IsFaulty is_after_name (drop at line) fault.code

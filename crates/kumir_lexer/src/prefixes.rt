@@ -68,33 +68,21 @@ pub fn word_len(text: &[char]) -> usize
     ensures prefix { result ≡ prefix_len classes.in_word text.now }
     ensures within { result ≤ length text.now }
 {
-    let mut n = 0;
-    while n < text.len() && in_word(text[n]) {
-        n += 1;
-    }
-    n
+    text.iter().take_while(|c| in_word(**c)).count()
 }
 
 pub fn digits_len(text: &[char]) -> usize
     ensures prefix { result ≡ prefix_len classes.is_digit text.now }
     ensures within { result ≤ length text.now }
 {
-    let mut n = 0;
-    while n < text.len() && is_digit(text[n]) {
-        n += 1;
-    }
-    n
+    text.iter().take_while(|c| is_digit(**c)).count()
 }
 
 fn unquoted_len(text: &[char]) -> usize
     ensures prefix { result ≡ prefix_len (λ c. not (classes.is_quote c)) text.now }
     ensures within { result ≤ length text.now }
 {
-    let mut n = 0;
-    while n < text.len() && text[n] != '"' {
-        n += 1;
-    }
-    n
+    text.iter().take_while(|c| !is_quote(**c)).count()
 }
 
 fn sign_width(text: &[char]) -> usize

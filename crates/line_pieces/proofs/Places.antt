@@ -89,8 +89,8 @@ pub mark_same : (xs : List Spanned) (at : ℕ) (d e : Spanned) → at + 1 < leng
 mark_same xs at d e h =
     ap (λ o. ends_between o (slice_get (tokens_of xs) (at + 1))) (before_next (tokens_of xs) at ∙ token_at xs at d (omega arith)) ∙ ap (ends_between (Some (get_or xs at d).token)) (token_at xs (at + 1) e h)
 
-pub when_is : (xs : List Spanned) (b : ℕ) (d : Spanned) (when : Bool) → b < length xs → when ≡ is_when (get_or xs b d).token → SomeIs is_when (slice_get (tokens_of xs) b) → when ≡ true
-when_is xs b d when h w s = w ∙ subst (SomeIs is_when) (token_at xs b d h) s
+pub when_is : (xs : List Spanned) (b : ℕ) (d : Spanned) (is_case : Bool) → b < length xs → is_case ≡ is_when (get_or xs b d).token → SomeIs is_when (slice_get (tokens_of xs) b) → is_case ≡ true
+when_is xs b d is_case h w s = w ∙ subst (SomeIs is_when) (token_at xs b d h) s
 
 pub colon_is : (xs : List Spanned) (at : ℕ) (d : Spanned) → at < length xs → SomeIs is_colon (token_before (tokens_of xs) (at + 1)) → is_colon (get_or xs at d).token ≡ true
 colon_is xs at d h s = subst (SomeIs is_colon) (before_next (tokens_of xs) at ∙ token_at xs at d h) s

@@ -124,10 +124,10 @@ fn count_square(open_squares: usize, token: &Token) -> usize
 }
 
 // Whether a token behind which no square bracket is open ends a piece that begins with `при`.
-fn closes_case(when: bool, squares: usize, left: &Token) -> bool
-    ensures { IsTrue result ↔ ((when ≡ true) × (squares ≡ 0) × (ends.is_colon left.now ≡ true)) }
+fn closes_case(is_case: bool, squares: usize, left: &Token) -> bool
+    ensures { IsTrue result ↔ ((is_case ≡ true) × (squares ≡ 0) × (ends.is_colon left.now ≡ true)) }
 {
-    when && squares == 0 && is_colon(left)
+    is_case && squares == 0 && is_colon(left)
 }
 
 // The first end behind `begin`, which is an end itself.
@@ -139,7 +139,7 @@ fn piece_end(tokens: &[Spanned], begin: usize) -> usize
     ensures end { ends.IsEnd (tokens_of tokens.now) result }
     ensures whole { (k : ℕ) → begin < k → k < result → ends.IsEnd (tokens_of tokens.now) k → ⊥ }
 {
-    let when = is_when(&tokens[begin].token);
+    let is_case = is_when(&tokens[begin].token);
     let mut squares = 0;
     for at in begin..tokens.len() - 1 {
         let left = &tokens[at].token;
@@ -147,7 +147,7 @@ fn piece_end(tokens: &[Spanned], begin: usize) -> usize
         if ends_between(left, &tokens[at + 1].token) {
             return at + 1;
         }
-        if closes_case(when, squares, left) {
+        if closes_case(is_case, squares, left) {
             return at + 1;
         }
     }

@@ -4,7 +4,7 @@ ghost use Rattle.line_pieces.specs.Spans.{AreShort};
 use km_base::Memory;
 use kumir_lexer::lex_line;
 use kumir_tree::Line;
-use line_pieces::{LineSpan, Piece, cut_pieces, split_units};
+use line_pieces::{cut_pieces, split_units};
 use std::alloc::Global;
 use std::test::Fail;
 
@@ -22,16 +22,8 @@ fn has_pieces(alloc: Global, line: &str, expected: &[(u32, u32)]) -> Result<bool
         return Ok(false);
     }
     let pieces = cut_pieces(alloc, &found)?;
-    Ok(are_pieces(pieces.as_slice(), expected))
-}
-
-fn are_pieces(pieces: &[Piece], expected: &[(u32, u32)]) -> bool {
-    for (piece, (from, to)) in pieces.iter().zip(expected) {
-        if piece.from != *from || piece.to != *to {
-            return false;
-        }
-    }
-    pieces.len() == expected.len()
+    let found = pieces.as_slice().iter().map(|p| (p.from, p.to));
+    Ok(found.eq(expected.iter().copied()))
 }
 
 const LINES: [(&str, &[(u32, u32)]); 13] = [
@@ -86,16 +78,8 @@ fn has_spans(alloc: Global, text: &str, expected: &[(u32, u32)]) -> Result<bool,
         return Ok(false);
     }
     let spans = split_units(alloc, &lines)?;
-    Ok(are_spans(spans.as_slice(), expected))
-}
-
-fn are_spans(spans: &[LineSpan], expected: &[(u32, u32)]) -> bool {
-    for (span, (first, count)) in spans.iter().zip(expected) {
-        if span.first != *first || span.count != *count {
-            return false;
-        }
-    }
-    spans.len() == expected.len()
+    let found = spans.as_slice().iter().map(|s| (s.first, s.count));
+    Ok(found.eq(expected.iter().copied()))
 }
 
 const TEXTS: [(&str, &[(u32, u32)]); 6] = [

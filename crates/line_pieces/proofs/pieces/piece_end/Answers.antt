@@ -11,20 +11,20 @@ returns-then-ends_between-clause-end c =
 pub returns-then-ends_between-clause-whole : goal.returns-then-ends_between-clause-whole
 returns-then-ends_between-clause-whole c =
     no_ends (tokens_of c.args.tokens.now) c.args.begin (c.loop-at.at + 1) c.requires.begins c.loop-at.invariant.bare
-    (λ s. c.loop-at.invariant.first (when_is c.args.tokens.now c.args.begin c.index-tokens-begin.result c.is_when-when.result (omega arith) c.is_when-when.ensures s))
+    (λ s. c.loop-at.invariant.first (when_is c.args.tokens.now c.args.begin c.index-tokens-begin.result c.is_when-is_case.result (omega arith) c.is_when-is_case.ensures s))
 
 pub returns-then-closes_case-clause-end : goal.returns-then-closes_case-clause-end
 returns-then-closes_case-clause-end c =
     let closes = c.closes_case.ensures.0 c.if-closes_case.true in
     case_here c.args.tokens.now c.args.begin c.loop-at.at c.index-tokens-begin.result c.index-tokens-at.result c.requires.begins c.loop-at.auto.at (omega arith)
-    (sym c.is_when-when.ensures ∙ closes.0) closes.2
+    (sym c.is_when-is_case.ensures ∙ closes.0) closes.2
     (sym (squares_here c.args.tokens.now c.args.begin c.loop-at.at c.loop-at.squares c.count_square-squares.result c.index-tokens-at.result c.loop-at.auto.at (omega arith) c.loop-at.invariant.count c.count_square-squares.ensures) ∙ closes.1)
     c.loop-at.invariant.bare (c.loop-at.invariant.first closes.0)
 
 pub returns-then-closes_case-clause-whole : goal.returns-then-closes_case-clause-whole
 returns-then-closes_case-clause-whole c =
     no_ends (tokens_of c.args.tokens.now) c.args.begin (c.loop-at.at + 1) c.requires.begins c.loop-at.invariant.bare
-    (λ s. c.loop-at.invariant.first (when_is c.args.tokens.now c.args.begin c.index-tokens-begin.result c.is_when-when.result (omega arith) c.is_when-when.ensures s))
+    (λ s. c.loop-at.invariant.first (when_is c.args.tokens.now c.args.begin c.index-tokens-begin.result c.is_when-is_case.result (omega arith) c.is_when-is_case.ensures s))
 
 pub loop-at-preserved : goal.loop-at-preserved
 loop-at-preserved c =
@@ -49,5 +49,5 @@ returns-clause-end c = last_end c.args.tokens.now
 pub returns-clause-whole : goal.returns-clause-whole
 returns-clause-whole c = λ k less below.
     no_ends (tokens_of c.args.tokens.now) c.args.begin (c.loop-at.at + 1) c.requires.begins c.loop-at.invariant.bare
-    (λ s. c.loop-at.invariant.first (when_is c.args.tokens.now c.args.begin c.index-tokens-begin.result c.is_when-when.result (omega arith) c.is_when-when.ensures s))
+    (λ s. c.loop-at.invariant.first (when_is c.args.tokens.now c.args.begin c.index-tokens-begin.result c.is_when-is_case.result (omega arith) c.is_when-is_case.ensures s))
     k less (omega arith)

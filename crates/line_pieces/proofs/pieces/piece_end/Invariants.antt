@@ -10,5 +10,5 @@ invariant-loop-at l = record {
   bound : l.squares ≤ l.at;
   count : l.squares ≡ squares (slice_range (tokens_of l.tokens) l.begin l.at);
   bare : NoMarks (tokens_of l.tokens) l.begin (l.at + 1);
-  first : l.when ≡ true → NoFreeColons (tokens_of l.tokens) l.begin (l.at + 1);
+  first : l.is_case ≡ true → NoFreeColons (tokens_of l.tokens) l.begin (l.at + 1);
 }
